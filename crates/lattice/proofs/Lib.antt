@@ -1,0 +1,14 @@
+pub mod GridLaws
+pub mod LatticeLaws
+pub mod NeighbourLaws
+pub mod TermLaws
+pub mod RowLaws
+pub mod Yee
+pub mod TabulateLaws
+pub mod MapLaws
+pub mod LineLaws
+pub mod CheckLaws
+pub mod LevelLaws
+pub mod TargetLaws
+pub mod Modulus
+pub mod Cases

@@ -1,0 +1,19 @@
+use Rattle.lattice.proofs.GridLaws.{axis-first, axis-second, axis-third}
+use Rattle.lattice.specs.Grid.{stepOf}
+use Rattle.lattice.proofs.grid.step.Statement.{statement}
+use Rattle.lattice.proofs.grid.step.Tie as tie
+
+returns : tie.Need-returns
+unfolding stepOf
+returns c = axis-first _ _ _ _ (c .if1 .taken)
+
+returns-2 : tie.Need-returns-2
+unfolding stepOf
+returns-2 c = axis-second _ _ _ _ (c .before .if1 .left) (c .if2 .taken)
+
+returns-3 : tie.Need-returns-3
+unfolding stepOf
+returns-3 c = axis-third _ _ _ _ (c .before .if1 .left) (c .if2 .left)
+
+pub step-spec : {M : Type 1} → statement M
+step-spec = tie.close (tie.spec returns returns-2 returns-3)

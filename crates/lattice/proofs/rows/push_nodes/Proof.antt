@@ -1,0 +1,76 @@
+use Prim.Native.Nat.{_-_}
+use native.Mathlib.Omega.{arith}
+use borrow.Author.Needs.{needs}
+use Rattle.numbers.specs.Places.{numberAt}
+use Rattle.lattice.specs.Rows.{nodeTerms}
+use Rattle.lattice.proofs.TermLaws.{Laying, laying-start, laying-turn, laying-end, laying-most}
+use Rattle.lattice.proofs.RowLaws.{node-terms-most}
+use Rattle.lattice.proofs.rows.push_nodes.Statement.{statement}
+use Rattle.lattice.proofs.rows.push_nodes.Tie as tie
+
+abbrev Inv-loop : tie.InvT-loop
+Inv-loop l eps n cs xs from columns₀ values₀ k₀ m₀ columns values k m = Laying (nodeTerms l (numberAt eps)) cs xs n from columns₀ values₀ columns values k m
+
+abbrev μ-loop : tie.MeasureT-loop
+μ-loop l eps n cs xs from columns₀ values₀ k₀ m₀ columns values k m = n - m
+
+loop-holds : tie.Need-loop-holds Inv-loop μ-loop
+loop-holds c = laying-start
+
+mul-node-terms : tie.Need-mul-node-terms Inv-loop μ-loop
+mul-node-terms c = search needs
+
+shared-slice-read-node-terms : tie.Need-shared-slice-read-node-terms Inv-loop μ-loop
+shared-slice-read-node-terms c = search needs
+
+get-requires : tie.Need-get-requires Inv-loop μ-loop
+get-requires c κs = search needs
+
+node-terms-requires : tie.Need-node-terms-requires Inv-loop μ-loop
+node-terms-requires c κs =
+    let p = c .before .before .before .before .before .before .before .before .before .before .before .pre in (
+      p .0,
+      (
+        p .1 .1 .0 .low _ (c .before .before .before .before .loop-test .taken),
+        (p .1 .1 .1 .0, omega (arith, laying-most (c .before .before .before .before .before .loop .inv) (node-terms-most _ _))),
+      ),
+    )
+
+add-m : tie.Need-add-m Inv-loop μ-loop
+add-m c = search needs
+
+loop-less : tie.Need-loop-less Inv-loop μ-loop
+loop-less c = search needs
+
+loop-again : tie.Need-loop-again Inv-loop μ-loop
+loop-again c =
+    laying-turn (c .before .before .before .before .before .before .before .before .before .before .loop .inv)
+    (c .before .before .before .before .before .before .before .before .before .loop-test .taken) (c .before .before .before .before .before .before .before .get .ensures)
+    (c .before .before .before .before .node-terms .ensures)
+
+same-length : tie.Need-same-length Inv-loop μ-loop
+same-length c = c .before .loop .inv .same-columns
+
+same-length-2 : tie.Need-same-length-2 Inv-loop μ-loop
+same-length-2 c = c .before .loop .inv .same-numbers
+
+returns : tie.Need-returns Inv-loop μ-loop
+returns c = laying-end (c .before .loop .inv) (c .loop-test .left)
+
+pub push-nodes-spec : {M : Type 1} → statement M
+push-nodes-spec =
+    tie.close
+    (tie.spec
+    Inv-loop
+    μ-loop
+    loop-holds
+    mul-node-terms
+    shared-slice-read-node-terms
+    get-requires
+    node-terms-requires
+    add-m
+    loop-less
+    loop-again
+    same-length
+    same-length-2
+    returns)

@@ -1,0 +1,62 @@
+-- The lattice record (docs/SPECIFICATION.md, 2): the input with the stretches, at the nodes of each axis and halfway behind each node.
+-- Assumes nothing.
+use Prim.Native.Nat.{ℕ, zero, suc, _+_, _*_, _/_, _%_}
+use mathlib.Core.Path.{_≡_}
+use mathlib.Core.Bool.{Bool, true, false, cond}
+use mathlib.Core.List.{List, [], _∷_}
+use lib.Dec.{ltb}
+use lib.ListN.{length, getD}
+use lib.Ieee.{Float}
+use Rattle.numbers.specs.declared.C64.{C64}
+use Rattle.numbers.specs.Complex.{zeroNumber, noNumber}
+use Rattle.numbers.specs.Places.{numberAt}
+use Rattle.lattice.specs.Grid.{axis3, nOf}
+use Rattle.lattice.specs.declared.grid.Grid3d.{Grid3d}
+use Rattle.lattice.specs.declared.lattice.Edges.{Edges}
+use Rattle.lattice.specs.declared.lattice.Edges.the-variants.{Pml, Bloch}
+use Rattle.lattice.specs.declared.lattice.Input.{Input}
+use Rattle.lattice.specs.declared.lattice.Lattice.{Lattice}
+
+unfoldable pub edgesOf : Lattice → ℕ → Edges
+edgesOf l a = axis3 a (l .x) (l .y) (l .z)
+
+abbrev pub isWall : Edges → Bool
+isWall Pml = true
+isWall (Bloch re im) = false
+
+-- the stretch at node m of axis a, and halfway behind it
+unfoldable pub nodesAt : Lattice → ℕ → ℕ → C64
+nodesAt l a m = getD (l .nodes) (64 * a + m) noNumber
+
+unfoldable pub halvesAt : Lattice → ℕ → ℕ → C64
+halvesAt l a m = getD (l .halves) (64 * a + m) noNumber
+
+-- ---- the record from the input and its lists
+
+-- f k, f (k + 1), .., n of them
+unfoldable pub tabulate : {A : Type 0} → (ℕ → A) → ℕ → ℕ → List A
+tabulate f zero k = []
+tabulate f (suc n) k = f k ∷ tabulate f n (suc k)
+
+-- place q of a record's list: number q % 64 of the list of axis q / 64, and zero beyond that axis's cells
+unfoldable pub stretchAt : Grid3d → List Float → List Float → List Float → ℕ → C64
+stretchAt g xs ys zs q = cond (ltb (q % 64) (nOf g (q / 64))) (numberAt (axis3 (q / 64) xs ys zs) (q % 64)) zeroNumber
+
+unfoldable pub latticeOf : Input → List Float → List Float → List Float → List Float → List Float → List Float → Lattice
+latticeOf v xn xh yn yh zn zh =
+    record {
+      grid = v .grid;
+      x = v .x;
+      y = v .y;
+      z = v .z;
+      k0 = v .k0;
+      shift = v .shift;
+      nodes = tabulate (stretchAt (v .grid) xn yn zn) 192 0;
+      halves = tabulate (stretchAt (v .grid) xh yh zh) 192 0;
+    }
+
+-- three lists with as many numbers as the axes have cells
+pub record Lengths (g : Grid3d) (xs ys zs : List Float) : Type 0 where
+  pub x-long : length xs ≡ 2 * g .nx
+  pub y-long : length ys ≡ 2 * g .ny
+  pub z-long : length zs ≡ 2 * g .nz

@@ -1,0 +1,13 @@
+pub mod Grid
+pub mod Lattice
+pub mod Terms
+pub mod Neighbours
+pub mod Curls
+pub mod Yee
+pub mod Rows
+pub mod Stretched
+pub mod Line
+pub mod Check
+pub mod Levels
+pub mod Cases
+pub mod Modulus

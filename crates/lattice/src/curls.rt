@@ -1,0 +1,219 @@
+// The curls, the divergence and the gradient: each fills the caller's lists from place 0 on and says how many terms there are.
+// `requires` of all of them: a grid within the limits and one of its edges, faces or nodes, which the rows above show.
+
+ghost use mathlib.Core.Path.{_≡_};
+ghost use Prim.Native.Nat.{_<_};
+ghost use Rattle.lattice.specs.Grid.{unknownsOf, cellsOf, Limits, Inside};
+ghost use Rattle.lattice.specs.Terms.{Wrote};
+ghost use Rattle.lattice.specs.Curls.{halfWeight, nodeWeight, termTo, termHere, ahead as aheadOf, behind as behindOf, curlE, curlH, divergenceOf, freeNode, gradientOf};
+use crate::grid;
+use crate::grid::Position;
+use crate::lattice;
+use crate::lattice::Lattice;
+use crate::neighbours;
+use crate::neighbours::Arrival;
+use crate::terms;
+use numbers::C64;
+
+// The weight of a difference along an axis, across a cell.
+fn half_weight(l: Lattice, p: Position, axis: usize, sign: f64) -> C64
+    requires { ⌜ Limits (l .grid) ⌝ }
+    requires { ⌜ Inside (l .grid) p ⌝ }
+    requires { ⌜ axis < 3 ⌝ }
+    ensures { λ r. ⌜ r ≡ halfWeight l p axis sign ⌝ }
+{
+    let s = lattice::half(l, axis, grid::place_on(p, axis));
+    numbers::real_over(sign, numbers::real_times(grid::step(l.grid, axis), s))
+}
+
+// The weight of a difference along an axis, across a node's dual cell.
+fn node_weight(l: Lattice, p: Position, axis: usize, sign: f64) -> C64
+    requires { ⌜ Limits (l .grid) ⌝ }
+    requires { ⌜ Inside (l .grid) p ⌝ }
+    requires { ⌜ axis < 3 ⌝ }
+    ensures { λ r. ⌜ r ≡ nodeWeight l p axis sign ⌝ }
+{
+    let s = lattice::node(l, axis, grid::place_on(p, axis));
+    numbers::real_over(sign, numbers::real_times(grid::step(l.grid, axis), s))
+}
+
+// The term of a neighbour at place k: none beyond a wall.
+fn push_to(to: Arrival, w: C64, k: usize, columns: &mut [usize], values: &mut [f64]) -> usize
+    requires { ⌜ k < 64 ⌝ }
+    ensures { λ r. ⌜ Wrote (now (columns .entry)) (now (values .entry)) k (termTo to w) (now (columns .exit)) (now (values .exit)) r ⌝ }
+{
+    match to {
+        Arrival::Beyond => k,
+        Arrival::To(column, phase) => terms::push(
+            columns,
+            values,
+            k,
+            column,
+            numbers::mul(w, phase),
+        ),
+    }
+}
+
+// The term of a position of a component at place k.
+fn push_here(
+    l: Lattice,
+    p: Position,
+    component: usize,
+    w: C64,
+    k: usize,
+    columns: &mut [usize],
+    values: &mut [f64],
+) -> usize
+    requires { ⌜ Limits (l .grid) ⌝ }
+    requires { ⌜ Inside (l .grid) p ⌝ }
+    requires { ⌜ component < 3 ⌝ }
+    requires { ⌜ k < 64 ⌝ }
+    ensures { λ r. ⌜ Wrote (now (columns .entry)) (now (values .entry)) k (termHere l p component w) (now (columns .exit)) (now (values .exit)) r ⌝ }
+{
+    let here = grid::index(l.grid, grid::with_component(p, component));
+    terms::push(columns, values, k, here, w)
+}
+
+// The difference of a field along an axis at a face: ahead, then here.
+fn ahead(
+    l: Lattice,
+    p: Position,
+    along: usize,
+    field: usize,
+    sign: f64,
+    k: usize,
+    columns: &mut [usize],
+    values: &mut [f64],
+) -> usize
+    requires { ⌜ Limits (l .grid) ⌝ }
+    requires { ⌜ Inside (l .grid) p ⌝ }
+    requires { ⌜ along < 3 ⌝ }
+    requires { ⌜ field < 3 ⌝ }
+    requires { ⌜ k < 60 ⌝ }
+    ensures { λ r. ⌜ Wrote (now (columns .entry)) (now (values .entry)) k (aheadOf l p along field sign) (now (columns .exit)) (now (values .exit)) r ⌝ }
+{
+    let w = half_weight(l, p, along, sign);
+    let to = neighbours::neighbour(l, grid::with_component(p, field), along, true);
+    let k1 = push_to(to, w, k, columns, values);
+    push_here(l, p, field, numbers::neg(w), k1, columns, values)
+}
+
+// The difference of a field along an axis at an edge or a node: here, then behind.
+fn behind(
+    l: Lattice,
+    p: Position,
+    along: usize,
+    field: usize,
+    sign: f64,
+    k: usize,
+    columns: &mut [usize],
+    values: &mut [f64],
+) -> usize
+    requires { ⌜ Limits (l .grid) ⌝ }
+    requires { ⌜ Inside (l .grid) p ⌝ }
+    requires { ⌜ along < 3 ⌝ }
+    requires { ⌜ field < 3 ⌝ }
+    requires { ⌜ k < 60 ⌝ }
+    ensures { λ r. ⌜ Wrote (now (columns .entry)) (now (values .entry)) k (behindOf l p along field sign) (now (columns .exit)) (now (values .exit)) r ⌝ }
+{
+    let w = node_weight(l, p, along, sign);
+    let k1 = push_here(l, p, field, w, k, columns, values);
+    let to = neighbours::neighbour(l, grid::with_component(p, field), along, false);
+    push_to(to, numbers::neg(w), k1, columns, values)
+}
+
+// Curl E at face r: the edges that it takes and their coefficients, fixed ones included.
+pub fn curl_e(l: Lattice, r: usize, columns: &mut [usize], values: &mut [f64]) -> usize
+    requires { ⌜ Limits (l .grid) ⌝ }
+    requires { ⌜ r < unknownsOf (l .grid) ⌝ }
+    ensures { λ n. ⌜ Wrote (now (columns .entry)) (now (values .entry)) 0 (curlE l r) (now (columns .exit)) (now (values .exit)) n ⌝ }
+{
+    let p = grid::at(l.grid, r);
+    let b = grid::next_axis(p.component);
+    let c = grid::last_axis(p.component);
+    let k = ahead(l, p, b, c, 1.0, 0, columns, values);
+    ahead(l, p, c, b, -1.0, k, columns, values)
+}
+
+// Curl H at edge r: the faces that it takes and their coefficients.
+pub fn curl_h(l: Lattice, r: usize, columns: &mut [usize], values: &mut [f64]) -> usize
+    requires { ⌜ Limits (l .grid) ⌝ }
+    requires { ⌜ r < unknownsOf (l .grid) ⌝ }
+    ensures { λ n. ⌜ Wrote (now (columns .entry)) (now (values .entry)) 0 (curlH l r) (now (columns .exit)) (now (values .exit)) n ⌝ }
+{
+    let p = grid::at(l.grid, r);
+    let b = grid::next_axis(p.component);
+    let c = grid::last_axis(p.component);
+    let k = behind(l, p, b, c, 1.0, 0, columns, values);
+    behind(l, p, c, b, -1.0, k, columns, values)
+}
+
+// The divergence at node q: the edges that it takes and their coefficients, fixed ones included.
+pub fn divergence(l: Lattice, q: usize, columns: &mut [usize], values: &mut [f64]) -> usize
+    requires { ⌜ Limits (l .grid) ⌝ }
+    requires { ⌜ q < unknownsOf (l .grid) ⌝ }
+    ensures { λ n. ⌜ Wrote (now (columns .entry)) (now (values .entry)) 0 (divergenceOf l q) (now (columns .exit)) (now (values .exit)) n ⌝ }
+{
+    let p = grid::at(l.grid, q);
+    let k = behind(l, p, 0, 0, 1.0, 0, columns, values);
+    let k1 = behind(l, p, 1, 1, 1.0, k, columns, values);
+    behind(l, p, 2, 2, 1.0, k1, columns, values)
+}
+
+// The term of a node that is not fixed, at place k: none where there is no node.
+fn push_free_node(
+    l: Lattice,
+    to: Arrival,
+    w: C64,
+    k: usize,
+    columns: &mut [usize],
+    values: &mut [f64],
+) -> usize
+    requires { ⌜ Limits (l .grid) ⌝ }
+    requires { ⌜ k < 64 ⌝ }
+    ensures { λ r. ⌜ Wrote (now (columns .entry)) (now (values .entry)) k (freeNode l (termTo to w)) (now (columns .exit)) (now (values .exit)) r ⌝ }
+{
+    match to {
+        Arrival::Beyond => k,
+        Arrival::To(q, phase) => {
+            if neighbours::node_fixed(l, q) {
+                return k;
+            }
+            terms::push(columns, values, k, q, numbers::mul(w, phase))
+        }
+    }
+}
+
+// The term of the node at a position, at place k, if that node is not fixed.
+fn push_free_here(
+    l: Lattice,
+    p: Position,
+    w: C64,
+    k: usize,
+    columns: &mut [usize],
+    values: &mut [f64],
+) -> usize
+    requires { ⌜ Limits (l .grid) ⌝ }
+    requires { ⌜ Inside (l .grid) p ⌝ }
+    requires { ⌜ k < 64 ⌝ }
+    ensures { λ r. ⌜ Wrote (now (columns .entry)) (now (values .entry)) k (freeNode l (termHere l p 0 w)) (now (columns .exit)) (now (values .exit)) r ⌝ }
+{
+    let here = grid::index(l.grid, grid::with_component(p, 0));
+    if neighbours::node_fixed(l, here) {
+        return k;
+    }
+    terms::push(columns, values, k, here, w)
+}
+
+// The gradient at edge r: the nodes that it takes and their coefficients, fixed nodes left out.
+pub fn gradient(l: Lattice, r: usize, columns: &mut [usize], values: &mut [f64]) -> usize
+    requires { ⌜ Limits (l .grid) ⌝ }
+    requires { ⌜ r < unknownsOf (l .grid) ⌝ }
+    ensures { λ n. ⌜ Wrote (now (columns .entry)) (now (values .entry)) 0 (gradientOf l r) (now (columns .exit)) (now (values .exit)) n ⌝ }
+{
+    let p = grid::at(l.grid, r);
+    let w = half_weight(l, p, p.component, 1.0);
+    let to = neighbours::neighbour(l, grid::with_component(p, 0), p.component, true);
+    let k = push_free_node(l, to, w, 0, columns, values);
+    push_free_here(l, p, numbers::neg(w), k, columns, values)
+}

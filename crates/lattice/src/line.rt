@@ -1,0 +1,117 @@
+// Lines: a level's nodes along one axis, in half-steps of the finest grid.
+
+ghost use mathlib.Core.Path.{_≡_};
+ghost use mathlib.Core.List.{_++_};
+ghost use Prim.Native.Nat.{ℕ, _+_, _-_, _<_, _≤_};
+ghost use lib.ListN.{length, getD, drop, replicate};
+ghost use Rattle.lattice.specs.Line.{packed, endsOf, finestEnds, joins as joinsOf, nextEnd, coarserEnds, placeOf, before as beforeOf, nodesOf, Rises, Held};
+use numbers::C64;
+
+// A line of `cells` cells: its ends, one more than the cells, then zeros.
+pub struct Line {
+    pub cells: usize,
+    pub ends: [usize; 65],
+}
+
+// The finest grid's n cells. `requires` of all functions here: a line over at most 64 cells, as the levels have them.
+pub fn finest(n: usize) -> Line
+    requires { ⌜ n ≤ 64 ⌝ }
+    ensures { λ r. ⌜ r ≡ packed (finestEnds n) ⌝ }
+{
+    let mut ends = [0usize; 65];
+    for m in 0..n + 1 {
+        ends[m] = 2 * m;
+    }
+    Line { cells: n, ends }
+}
+
+// Whether the two cells from end a to end c join.
+fn joins(x: [C64; 129], target: f64, a: usize, c: usize) -> bool
+    requires { ⌜ (a < 129) × (c < 129) ⌝ }
+    ensures { λ r. ⌜ r ≡ joinsOf x target a c ⌝ }
+{
+    let d = numbers::sub(x[c], x[a]);
+    numbers::norm_sqr(d) <= target * target
+}
+
+// The end that is kept behind end m.
+fn next_end(l: Line, x: [C64; 129], target: f64, m: usize) -> usize
+    requires { ⌜ Held l ⌝ }
+    requires { ⌜ m < l .cells ⌝ }
+    ensures { λ r. ⌜ r ≡ nextEnd x target l m ⌝ }
+{
+    if m + 2 <= l.cells {
+        if joins(x, target, l.ends[m], l.ends[m + 2]) {
+            return m + 2;
+        }
+    }
+    m + 1
+}
+
+// The next level's line: neighbouring cells joined in pairs, from the left, where a pair is no longer than `target` in the map x.
+pub fn coarser(l: Line, x: [C64; 129], target: f64) -> Line
+    requires { ⌜ Held l ⌝ }
+    ensures { λ r. ⌜ r ≡ packed (coarserEnds x target (endsOf l)) ⌝ }
+{
+    let n = l.cells;
+    if n < 4 {
+        return l;
+    }
+    let mut ends = [0usize; 65];
+    ends[0] = l.ends[0];
+    let mut m = 0;
+    let mut k = 0;
+    while m < n {
+        m = next_end(l, x, target, m);
+        k += 1;
+        ends[k] = l.ends[m];
+    }
+    Line { cells: k, ends }
+}
+
+// How many ends of a line stand before the first that is not below e. `requires`: the first `from` are below it.
+fn before_from(l: Line, from: usize, e: usize) -> usize
+    requires { ⌜ Held l ⌝ }
+    requires { ⌜ from ≤ l .cells + 1 ⌝ }
+    requires { ⌜ ((m : ℕ) → m < from → getD (l .ends) m 0 < e) ⌝ }
+    ensures { λ r. ⌜ r ≡ beforeOf e (endsOf l) ⌝ }
+{
+    let n = l.cells + 1;
+    let mut q = from;
+    while q < n {
+        if l.ends[q] >= e {
+            return q;
+        }
+        q += 1;
+    }
+    q
+}
+
+// For each node of the coarse line the number of the same node on the fine one, then zeros.
+pub fn nodes_of(fine: Line, coarse: Line) -> [usize; 65]
+    requires { ⌜ Held fine ⌝ }
+    requires { ⌜ Held coarse ⌝ }
+    requires { ⌜ Rises (endsOf coarse) ⌝ }
+    ensures { λ r. ⌜ r ≡ nodesOf (endsOf fine) (endsOf coarse) ++ replicate (64 - coarse .cells) 0 ⌝ }
+{
+    let n = coarse.cells + 1;
+    let mut nodes = [0usize; 65];
+    let mut q = 0;
+    for m in 0..n {
+        q = before_from(fine, q, coarse.ends[m]);
+        nodes[m] = q;
+    }
+    nodes
+}
+
+// Where value m lies: node m, or, along the axis, halfway between nodes m and m + 1.
+pub fn place(l: Line, m: usize, along: bool) -> usize
+    requires { ⌜ Held l ⌝ }
+    requires { ⌜ m < l .cells ⌝ }
+    ensures { λ r. ⌜ r ≡ placeOf (endsOf l) m along ⌝ }
+{
+    if along {
+        return (l.ends[m] + l.ends[m + 1]) / 2;
+    }
+    l.ends[m]
+}

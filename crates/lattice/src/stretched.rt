@@ -1,0 +1,74 @@
+// Both maps of an axis: the stretched coordinate at each half-step of the finest grid.
+
+ghost use mathlib.Core.Path.{_≡_};
+ghost use Prim.Native.Nat.{_<_, min};
+ghost use Rattle.lattice.specs.Grid.{Limits};
+ghost use Rattle.lattice.specs.Stretched.{acrossMap, alongMap, stretchedOf};
+use crate::grid;
+use crate::lattice;
+use crate::lattice::Lattice;
+use numbers::C64;
+
+// The maps of an axis: by the stretch of the cells, which the components across it see, and by that of the nodes, which the component along it sees.
+pub struct Stretched {
+    pub across: [C64; 129],
+    pub along: [C64; 129],
+}
+
+// The map by the stretch of the cells.
+pub fn across_map(l: Lattice, axis: usize) -> [C64; 129]
+    requires { ⌜ Limits (l .grid) ⌝ }
+    requires { ⌜ axis < 3 ⌝ }
+    ensures { λ r. ⌜ r ≡ acrossMap l axis ⌝ }
+{
+    let n = grid::n(l.grid, axis);
+    let mut x = [numbers::zero(); 129];
+    let mut here = numbers::zero();
+    for p in 0..2 * n {
+        here = numbers::add(
+            here,
+            numbers::real_times(0.5, lattice::half(l, axis, p / 2)),
+        );
+        x[p + 1] = here;
+    }
+    x
+}
+
+// The map by the stretch of the nodes.
+pub fn along_map(l: Lattice, axis: usize) -> [C64; 129]
+    requires { ⌜ Limits (l .grid) ⌝ }
+    requires { ⌜ axis < 3 ⌝ }
+    ensures { λ r. ⌜ r ≡ alongMap l axis ⌝ }
+{
+    let n = grid::n(l.grid, axis);
+    let mut x = [numbers::zero(); 129];
+    let mut here = numbers::zero();
+    for p in 0..2 * n {
+        let m = lesser((p + 1) / 2, n - 1);
+        here = numbers::add(here, numbers::real_times(0.5, lattice::node(l, axis, m)));
+        x[p + 1] = here;
+    }
+    x
+}
+
+// Both maps of an axis. `requires`: a lattice within the limits, and one of its axes.
+pub fn new(l: Lattice, axis: usize) -> Stretched
+    requires { ⌜ Limits (l .grid) ⌝ }
+    requires { ⌜ axis < 3 ⌝ }
+    ensures { λ r. ⌜ r ≡ stretchedOf l axis ⌝ }
+{
+    Stretched {
+        across: across_map(l, axis),
+        along: along_map(l, axis),
+    }
+}
+
+// The lesser of two numbers.
+fn lesser(a: usize, b: usize) -> usize
+    ensures { λ r. ⌜ r ≡ min a b ⌝ }
+{
+    if a < b {
+        return a;
+    }
+    b
+}
