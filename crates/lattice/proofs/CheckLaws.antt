@@ -24,16 +24,6 @@ use Rattle.lattice.specs.declared.check.Checked.the-variants.{Sound, Cel
 
 -- ---- a test or a second one
 
-pub or-yes : (a b : Bool) → a ≡ true → (a || b) ≡ a
-or-yes true b e = refl
-or-yes false true e = sym e
-or-yes false false e = refl
-
-pub or-no : (a b : Bool) → a ≡ false → (a || b) ≡ b
-or-no true true e = refl
-or-no true false e = e
-or-no false b e = refl
-
 or-left : (a b : Bool) → (a || b) ≡ false → a ≡ false
 or-left true b e = e
 or-left false b e = refl

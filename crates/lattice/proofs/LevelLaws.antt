@@ -31,7 +31,8 @@ use Rattle.lattice.specs.declared.lattice.Input.{Input}
 use Rattle.lattice.specs.declared.check.Checked.{Checked}
 use Rattle.lattice.specs.declared.check.Checked.the-variants.{Sound, Cells, Scalar, Length, Entry}
 use Rattle.lattice.proofs.GridLaws.{n-some, n-most}
-use Rattle.lattice.proofs.CheckLaws.{or-yes, or-no, sound-is}
+use Rattle.numbers.proofs.Laws.{or-true, or-false}
+use Rattle.lattice.proofs.CheckLaws.{sound-is}
 use Rattle.lattice.proofs.TabulateLaws.{is-tabulate, Filled, filled-turn}
 use Rattle.lattice.proofs.LatticeLaws.{filled-first}
 use Rattle.lattice.proofs.LineLaws.{ends-packed, finest-over, coarser-over, over-held}
@@ -166,7 +167,7 @@ module _ {l : Lattice} {coarsest L : ℕ} {lines : List Line} {t : Three} (s : S
   -- few enough edges
   pub stored-few : {e : ℕ} → e ≡ edgesOf t → e ≤ coarsest → Joined l coarsest (Depth.Levels (L + 1)) (withLevel lines L t)
   unfolding stops
-  stored-few p q = stopped (or-yes (leb (edgesAt l L) coarsest) (same l L) r ∙ r)
+  stored-few p q = stopped (or-true (leb (edgesAt l L) coarsest) (same l L) r ∙ r)
     where
       r : leb (edgesAt l L) coarsest ≡ true
       r = le-leb (edgesAt l L) coarsest (omega (arith, edges-here p))
@@ -183,7 +184,7 @@ module _ {l : Lattice} {coarsest L : ℕ} {lines : List Line} {t : Three} (s : S
     same-stops =
         cells
         ∙ ((λ i. sameCells (next-is i) (s .here i))
-        ∙ (three-same l L ∙ sym (or-no (leb (edgesAt l L) coarsest) (same l L) (lt-leb (edgesAt l L) coarsest (omega (arith, edges-here edges))))))
+        ∙ (three-same l L ∙ sym (or-false (leb (edgesAt l L) coarsest) (same l L) (lt-leb (edgesAt l L) coarsest (omega (arith, edges-here edges))))))
 
     pub stored-same : b ≡ true → Joined l coarsest (Depth.Levels (L + 1)) (withLevel lines L t)
     stored-same q = stopped (sym same-stops ∙ q)

@@ -6,6 +6,7 @@ use mathlib.Core.Bool.{Bool, true, false, not, _&&_, _||_}
 use borrow.Author.Tests.{lt-ltb, le-ltb, eq-eqb, ne-eqb}
 use lib.Dec.{eqb}
 use Rattle.numbers.specs.declared.C64.{C64}
+use Rattle.numbers.proofs.Laws.{or-true, or-false}
 use Rattle.numbers.specs.Complex.{oneNumber}
 use Rattle.lattice.specs.Grid.{nOf, placeOn, movedTo, atOf, Inside}
 use Rattle.lattice.specs.Lattice.{edgesOf, isWall}
@@ -82,11 +83,7 @@ pub own-axis : {v : Bool} (w : Bool) (b c : ℕ) → b ≡ c → v ≡ not (eqb 
 own-axis w b c h e = rw (eq-eqb b c h) (e ∙ rw (eq-eqb b c h))
 
 pub or-first : {v : Bool} (t s : Bool) → v ≡ true → v ≡ t → v ≡ (t || s)
-or-first true s h e = h
-or-first false true h e = h
-or-first false false h e = e
+or-first t s h e = e ∙ sym (or-true t s (sym e ∙ h))
 
 pub or-next : {v r : Bool} (t s : Bool) → v ≡ false → v ≡ t → r ≡ s → r ≡ (t || s)
-or-next true true h e q = q
-or-next true false h e q = q ∙ sym h ∙ e
-or-next false s h e q = q
+or-next t s h e q = q ∙ sym (or-false t s (sym e ∙ h))

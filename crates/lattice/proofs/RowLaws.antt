@@ -17,7 +17,7 @@ use Rattle.numbers.specs.Complex.{mulF, negF, oneF, zeroNumber, oneNumber, sum,
 use Rattle.lattice.specs.Grid.{unknownsOf, Limits, Inside, withComponent, atOf, nextAxis, lastAxis}
 use Rattle.lattice.specs.Terms.{Term, columnsOf, each}
 use Rattle.lattice.specs.Neighbours.{neighbourOf, isFixed, isNodeFixed}
-use Rattle.lattice.specs.Curls.{minusOneF, halfWeight, nodeWeight, termTo, termHere, ahead, behind, curlEAt, curlE, curlHAt, curlH, divergenceOf, freeNode, gradientAt, gradientOf}
+use Rattle.lattice.specs.Curls.{minusOneF, halfWeight, nodeWeight, termTo, termHere, ahead, behind, curlEAt, curlE, curlHAt, curlH, divergenceOf, freeNodes, gradientAt, gradientOf}
 use Rattle.lattice.specs.Rows.{faceTerm, faceTerms, curlCurl, freeOf, freeColumns, summed, freeSum, mean, nodeEps, nodeTerm, nodeTerms, gradDiv, rowInto, freeColumnsOf, rowReads}
 use Rattle.lattice.specs.declared.grid.Grid3d.{Grid3d}
 use Rattle.lattice.specs.declared.grid.Position.{Position}
@@ -92,10 +92,17 @@ cond-most : (b : Bool) (t : Term) → length (cond b [] (t ∷ [])) ≤ 1
 cond-most true t = omega arith
 cond-most false t = omega arith
 
-pub free-most : (l : Lattice) (ts : List Term) → length (freeNode l ts) ≤ 1
-unfolding freeNode
-free-most l [] = omega arith
-free-most l (t ∷ ts) = cond-most (isNodeFixed l (t .column)) t
+free-shorter : (l : Lattice) (ts : List Term) → length (freeNodes l ts) ≤ length ts
+unfolding freeNodes
+free-shorter l [] = omega arith
+free-shorter l (t ∷ ts) = go (isNodeFixed l (t .column)) (free-shorter l ts)
+  where
+    go : (b : Bool) → length (freeNodes l ts) ≤ length ts → length (cond b (freeNodes l ts) (t ∷ freeNodes l ts)) ≤ suc (length ts)
+    go true h = omega arith
+    go false h = omega arith
+
+pub free-most : (l : Lattice) (ts : List Term) → length ts ≤ 1 → length (freeNodes l ts) ≤ 1
+free-most l ts h = omega (arith, free-shorter l ts)
 
 pub gradient-most : (l : Lattice) (r : ℕ) → length (gradientOf l r) ≤ 2
 unfolding gradientOf gradientAt
@@ -104,7 +111,8 @@ gradient-most l r =
     let w = halfWeight l p (p .component) oneF in
     let t = termTo (neighbourOf l (withComponent p 0) (p .component) true) w in
     let h = termHere l p 0 (negation w) in
-    append-most (freeNode l t) (freeNode l h) 1 1 (free-most l t) (free-most l h)
+    append-most (freeNodes l t) (freeNodes l h) 1 1 (free-most l t (to-most (neighbourOf l (withComponent p 0) (p .component) true) w))
+    (free-most l h (here-most l p 0 (negation w)))
 
 pub face-term-most : (l : Lattice) (wh : C64) (t : Term) → length (faceTerm l wh t) ≤ 1
 unfolding faceTerm
@@ -142,9 +150,9 @@ row-most l f r = go (isFixed l r)
 
 -- ---- columns below the number of edges
 
-low-cond : {b : ℕ} (fixed : Bool) (t : Term) → t .column < b → Low b (cond fixed [] (t ∷ []))
-low-cond true t p = none
-low-cond false t p = more p none
+low-kept : {b : ℕ} {ts : List Term} (left-out : Bool) (t : Term) → t .column < b → Low b ts → Low b (cond left-out ts (t ∷ ts))
+low-kept true t p u = u
+low-kept false t p u = more p u
 
 module _ (l : Lattice) (h : Limits (l .grid)) where
   low-to : {p : Position} (a : ℕ) (up : Bool) (w : C64) → Inside (l .grid) p → Low (unknownsOf (l .grid)) (termTo (neighbourOf l p a up) w)
@@ -168,10 +176,10 @@ module _ (l : Lattice) (h : Limits (l .grid)) where
   low-behind {p} along field sign i b =
       low-append (low-here field (nodeWeight l p along sign) i b) (low-to along false (negation (nodeWeight l p along sign)) (with-inside i field b))
 
-  low-free : {ts : List Term} → Low (unknownsOf (l .grid)) ts → Low (unknownsOf (l .grid)) (freeNode l ts)
-  unfolding freeNode
+  low-free : {ts : List Term} → Low (unknownsOf (l .grid)) ts → Low (unknownsOf (l .grid)) (freeNodes l ts)
+  unfolding freeNodes
   low-free none = none
-  low-free (more {t = t} p u) = low-cond (isNodeFixed l (t .column)) t p
+  low-free (more {t = t} p u) = low-kept (isNodeFixed l (t .column)) t p (low-free u)
 
   module _ (r : ℕ) (b : r < unknownsOf (l .grid)) where
     pub low-curl-e : Low (unknownsOf (l .grid)) (curlE l r)
@@ -205,12 +213,12 @@ module _ (l : Lattice) (h : Limits (l .grid)) where
   low-face-terms : (t : Term) → t .column < unknownsOf (l .grid) → Low (unknownsOf (l .grid)) (faceTerms l t)
   unfolding faceTerms faceTerm
   low-face-terms t b =
-      low-each (faceTerm l (t .number)) (λ s p. low-cond (isFixed l (s .column)) _ p) (low-curl-e (t .column) b)
+      low-each (faceTerm l (t .number)) (λ s p. low-kept (isFixed l (s .column)) _ p none) (low-curl-e (t .column) b)
 
   low-node-terms : (f : ℕ → C64) (t : Term) → t .column < unknownsOf (l .grid) → Low (unknownsOf (l .grid)) (nodeTerms l f t)
   unfolding nodeTerms nodeTerm
   low-node-terms f t b =
-      low-each (nodeTerm l f (t .number) (realOver oneF (nodeEps l f (t .column)))) (λ s p. low-cond (isFixed l (s .column)) _ p) (low-divergence (t .column) b)
+      low-each (nodeTerm l f (t .number) (realOver oneF (nodeEps l f (t .column)))) (λ s p. low-kept (isFixed l (s .column)) _ p none) (low-divergence (t .column) b)
 
   pub low-row : (f : ℕ → C64) (r : ℕ) → r < unknownsOf (l .grid) → Low (unknownsOf (l .grid)) (rowInto l f r)
   unfolding rowInto curlCurl gradDiv

@@ -74,15 +74,15 @@ divergenceOf l q =
     behind l (atOf (l .grid) q) 0 0 oneF
     ++ (behind l (atOf (l .grid) q) 1 1 oneF ++ behind l (atOf (l .grid) q) 2 2 oneF)
 
--- the terms of a list of at most one whose node is not fixed
-unfoldable pub freeNode : Lattice → List Term → List Term
-freeNode l [] = []
-freeNode l (t ∷ ts) = cond (isNodeFixed l (t .column)) [] (t ∷ [])
+-- those terms whose node is not fixed
+unfoldable pub freeNodes : Lattice → List Term → List Term
+freeNodes l [] = []
+freeNodes l (t ∷ ts) = cond (isNodeFixed l (t .column)) (freeNodes l ts) (t ∷ freeNodes l ts)
 
 unfoldable pub gradientAt : Lattice → Position → List Term
 gradientAt l p =
-    freeNode l (termTo (neighbourOf l (withComponent p 0) (p .component) true) (halfWeight l p (p .component) oneF))
-    ++ freeNode l (termHere l p 0 (negation (halfWeight l p (p .component) oneF)))
+    freeNodes l (termTo (neighbourOf l (withComponent p 0) (p .component) true) (halfWeight l p (p .component) oneF))
+    ++ freeNodes l (termHere l p 0 (negation (halfWeight l p (p .component) oneF)))
 
 unfoldable pub gradientOf : Lattice → ℕ → List Term
 gradientOf l r = gradientAt l (atOf (l .grid) r)

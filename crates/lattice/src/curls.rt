@@ -5,7 +5,7 @@ ghost use mathlib.Core.Path.{_≡_};
 ghost use Prim.Native.Nat.{_<_};
 ghost use Rattle.lattice.specs.Grid.{unknownsOf, cellsOf, Limits, Inside};
 ghost use Rattle.lattice.specs.Terms.{Wrote};
-ghost use Rattle.lattice.specs.Curls.{halfWeight, nodeWeight, termTo, termHere, ahead as aheadOf, behind as behindOf, curlE, curlH, divergenceOf, freeNode, gradientOf};
+ghost use Rattle.lattice.specs.Curls.{halfWeight, nodeWeight, termTo, termHere, ahead as aheadOf, behind as behindOf, curlE, curlH, divergenceOf, freeNodes, gradientOf};
 use crate::grid;
 use crate::grid::Position;
 use crate::lattice;
@@ -171,7 +171,7 @@ fn push_free_node(
 ) -> usize
     requires { ⌜ Limits (l .grid) ⌝ }
     requires { ⌜ k < 64 ⌝ }
-    ensures { λ r. ⌜ Wrote (now (columns .entry)) (now (values .entry)) k (freeNode l (termTo to w)) (now (columns .exit)) (now (values .exit)) r ⌝ }
+    ensures { λ r. ⌜ Wrote (now (columns .entry)) (now (values .entry)) k (freeNodes l (termTo to w)) (now (columns .exit)) (now (values .exit)) r ⌝ }
 {
     match to {
         Arrival::Beyond => k,
@@ -196,7 +196,7 @@ fn push_free_here(
     requires { ⌜ Limits (l .grid) ⌝ }
     requires { ⌜ Inside (l .grid) p ⌝ }
     requires { ⌜ k < 64 ⌝ }
-    ensures { λ r. ⌜ Wrote (now (columns .entry)) (now (values .entry)) k (freeNode l (termHere l p 0 w)) (now (columns .exit)) (now (values .exit)) r ⌝ }
+    ensures { λ r. ⌜ Wrote (now (columns .entry)) (now (values .entry)) k (freeNodes l (termHere l p 0 w)) (now (columns .exit)) (now (values .exit)) r ⌝ }
 {
     let here = grid::index(l.grid, grid::with_component(p, 0));
     if neighbours::node_fixed(l, here) {

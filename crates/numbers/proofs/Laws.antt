@@ -4,7 +4,7 @@ use Prim.Native.Nat.{ℕ, _+_, _*_, _/_, _<_, _≤_}
 use mathlib.Core.Path.{_≡_, refl, sym, _∙_}
 use mathlib.Core.Logic.{_≢_}
 use mathlib.Core.List.{List}
-use mathlib.Core.Bool.{Bool, true, false, _&&_, cond}
+use mathlib.Core.Bool.{Bool, true, false, _&&_, _||_, cond}
 use native.Mathlib.Omega.{arith}
 use borrow.Author.Tests.{lt-ltb, le-ltb}
 use lib.Dec.{ltb}
@@ -19,7 +19,7 @@ use Rattle.numbers.specs.Places.{places, numberAt, setNumber}
 pub parts : {x y : C64} → x .re ≡ y .re → x .im ≡ y .im → x ≡ y
 parts p q = λ i. record { re = p i; im = q i }
 
--- ---- a test and a second one
+-- ---- two tests
 
 pub and-true : (a b : Bool) → a ≡ true → (a && b) ≡ b
 and-true true b e = refl
@@ -39,6 +39,16 @@ pub and-right : (a b : Bool) → (a && b) ≡ true → b ≡ true
 and-right true b e = e
 and-right false true e = refl
 and-right false false e = e
+
+pub or-true : (a b : Bool) → a ≡ true → (a || b) ≡ a
+or-true true b e = refl
+or-true false true e = sym e
+or-true false false e = refl
+
+pub or-false : (a b : Bool) → a ≡ false → (a || b) ≡ b
+or-false true true e = refl
+or-false true false e = e
+or-false false b e = refl
 
 -- ---- finite, by cases: a finite double is one of these, a finite number has two
 

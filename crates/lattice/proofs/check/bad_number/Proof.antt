@@ -4,7 +4,7 @@ use mathlib.Core.Bool.{not}
 use mathlib.Core.Path.{sym, _∙_, ap}
 use borrow.Author.Needs.{needs}
 use Rattle.lattice.specs.Check.{badNumber}
-use Rattle.lattice.proofs.CheckLaws.{or-yes, or-no}
+use Rattle.numbers.proofs.Laws.{or-true, or-false}
 use Rattle.lattice.proofs.check.bad_number.Statement.{statement}
 use Rattle.lattice.proofs.check.bad_number.Tie as tie
 
@@ -17,12 +17,12 @@ is-zero-requires c κs = search needs
 returns : tie.Need-returns
 unfolding badNumber
 returns c =
-    let e = ap not (c .before .is-finite .ensures) in e ∙ sym (or-yes _ _ (sym e ∙ c .if1 .taken))
+    let e = ap not (c .before .is-finite .ensures) in e ∙ sym (or-true _ _ (sym e ∙ c .if1 .taken))
 
 returns-2 : tie.Need-returns-2
 unfolding badNumber
 returns-2 c =
-    c .is-zero .ensures ∙ sym (or-no _ _ (sym (ap not (c .before .before .is-finite .ensures)) ∙ c .before .if1 .left))
+    c .is-zero .ensures ∙ sym (or-false _ _ (sym (ap not (c .before .before .is-finite .ensures)) ∙ c .before .if1 .left))
 
 pub bad-number-spec : {M : Type 1} → statement M
 bad-number-spec = tie.close (tie.spec is-finite-requires is-zero-requires returns returns-2)

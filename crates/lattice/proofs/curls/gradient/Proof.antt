@@ -2,7 +2,7 @@ use native.Mathlib.Omega.{arith}
 use borrow.Author.Needs.{needs}
 use Rattle.lattice.specs.Curls.{gradientOf, gradientAt}
 use Rattle.lattice.proofs.TermLaws.{wrote-append, wrote-most}
-use Rattle.lattice.proofs.RowLaws.{at-in, with-in, free-most}
+use Rattle.lattice.proofs.RowLaws.{at-in, with-in, free-most, to-most}
 use Rattle.lattice.proofs.curls.gradient.Statement.{statement}
 use Rattle.lattice.proofs.curls.gradient.Tie as tie
 
@@ -35,7 +35,7 @@ push-free-here-requires c κs =
       p .0,
       (
         at-in (p .0) (p .1) (c .before .before .before .before .before .before .before .before .before .before .before .before .before .at .ensures),
-        omega (arith, wrote-most (c .before .before .before .before .before .before .before .push-free-node .ensures) (free-most _ _)),
+        omega (arith, wrote-most (c .before .before .before .before .before .before .before .push-free-node .ensures) (free-most _ _ (to-most (c .before .before .before .before .before .before .before .before .before .before .neighbour .result) (c .before .before .before .before .before .before .before .before .before .before .before .before .half-weight .result)))),
       ),
     )
 

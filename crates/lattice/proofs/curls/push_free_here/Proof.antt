@@ -1,6 +1,6 @@
 use native.Mathlib.Omega.{arith}
 use borrow.Author.Needs.{needs}
-use Rattle.lattice.specs.Curls.{freeNode, termHere}
+use Rattle.lattice.specs.Curls.{freeNodes, termHere}
 use Rattle.lattice.proofs.TermLaws.{wrote-none}
 use Rattle.lattice.proofs.RowLaws.{with-in}
 use Rattle.lattice.proofs.curls.push_free_here.Statement.{statement}
@@ -18,7 +18,7 @@ node-fixed-requires : tie.Need-node-fixed-requires
 node-fixed-requires c κs = search needs
 
 returns : tie.Need-returns
-unfolding freeNode termHere
+unfolding freeNodes termHere
 returns c = rw (← c .before .before .before .with-component .ensures, ← c .before .before .index .ensures, ← c .before .node-fixed .ensures, c .if1 .taken) wrote-none
 
 push-requires : tie.Need-push-requires
@@ -31,7 +31,7 @@ same-length-2 : tie.Need-same-length-2
 same-length-2 c = search needs
 
 returns-2 : tie.Need-returns-2
-unfolding freeNode termHere
+unfolding freeNodes termHere
 returns-2 c =
     rw (
       ← c .before .before .before .before .before .before .before .before .before .before .with-component .ensures,

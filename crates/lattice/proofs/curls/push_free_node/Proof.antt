@@ -1,5 +1,5 @@
 use borrow.Author.Needs.{needs}
-use Rattle.lattice.specs.Curls.{freeNode}
+use Rattle.lattice.specs.Curls.{freeNodes}
 use Rattle.lattice.proofs.TermLaws.{wrote-none}
 use Rattle.lattice.proofs.curls.push_free_node.Statement.{statement}
 use Rattle.lattice.proofs.curls.push_free_node.Tie as tie
@@ -14,7 +14,7 @@ node-fixed-requires : tie.Need-node-fixed-requires
 node-fixed-requires c κs = search needs
 
 returns : tie.Need-returns
-unfolding freeNode
+unfolding freeNodes
 returns c = rw (c .before .before .before .to .given .1, ← c .before .node-fixed .ensures, c .if1 .taken) wrote-none
 
 mul-requires : tie.Need-mul-requires
@@ -24,7 +24,7 @@ push-requires : tie.Need-push-requires
 push-requires c κs = search needs
 
 returns-2 : tie.Need-returns-2
-unfolding freeNode
+unfolding freeNodes
 returns-2 c = rw (c .enum-told .given .1) wrote-none
 
 same-length : tie.Need-same-length
@@ -34,7 +34,7 @@ same-length-2 : tie.Need-same-length-2
 same-length-2 c = search needs
 
 returns-3 : tie.Need-returns-3
-unfolding freeNode
+unfolding freeNodes
 returns-3 c =
     rw (
       c .before .before .before .before .before .before .before .before .before .before .before .to .given .1,

@@ -1,0 +1,81 @@
+-- `lattice_c::lattice_rows` meets its contract: a sound input gives what the lattice and its rows require.
+-- Assumes nothing.
+use Prim.Native.Nat.{_*_}
+use mathlib.Core.Path.{_≡_}
+use borrow.Author.Needs.{needs}
+use borrow.Author.Tests.{not-true, not-false}
+use denote.Ref.{now}
+use lib.ListN.{length}
+use Rattle.lattice.specs.Grid.{unknownsOf, Limits}
+use Rattle.lattice.specs.Lattice.{Lengths}
+use Rattle.lattice.proofs.CheckLaws.{passed}
+use Rattle.lattice_c.proofs.RowsLaid.{all-told, all-sound, rows-asked, rows-none, rows-all}
+use Rattle.lattice_c.proofs.lattice_rows.Statement.{statement}
+use Rattle.lattice_c.proofs.lattice_rows.Tie as tie
+
+fine : (c : tie.Else1)
+    → let g = c .before .before .before .input .result .grid in
+    let a = c .before .before .before .before .before .before .before .before .before .before .before .before .before .before .before .before .args in
+    Limits g
+    × Lengths g (now (a .xn)) (now (a .yn)) (now (a .zn))
+    × Lengths g (now (a .xh)) (now (a .yh)) (now (a .zh))
+    × (length (now (a .eps)) ≡ 2 * unknownsOf g)
+fine c =
+    all-sound (c .before .before .before .input .result) _ _ _ _ _ _ _
+    (passed (c .before .before .check .ensures) (c .before .is-sound .ensures) (not-false _ (c .if1 .left)))
+
+input-requires : tie.Need-input-requires
+input-requires c κs = search needs
+
+check-requires : tie.Need-check-requires
+check-requires c κs = search needs
+
+is-sound-requires : tie.Need-is-sound-requires
+is-sound-requires c κs = search needs
+
+returns : tie.Need-returns
+returns c = rows-none (all-told _ _ _ _ _ _ (c .before .before .before .input .ensures) _ (c .before .before .check .ensures) (c .before .is-sound .ensures) (not-true _ (c .if1 .taken)))
+
+new-requires : tie.Need-new-requires
+new-requires c κs = (fine c .1, fine c .2)
+
+unknowns-requires : tie.Need-unknowns-requires
+unknowns-requires c κs = fine (c .before) .0
+
+put-rows-requires : tie.Need-put-rows-requires
+put-rows-requires c κs =
+    let f = fine (c .before .before .before .before .before) in
+    rows-asked (c .before .before .before .before .before .before .before .before .input .result) _ _ _ _ _ _ (c .before .before .before .before .new .ensures) (c .before .before .before .unknowns .ensures) (f .0) (f .3)
+
+same-length : tie.Need-same-length
+same-length c = search needs
+
+same-length-2 : tie.Need-same-length-2
+same-length-2 c = search needs
+
+same-length-3 : tie.Need-same-length-3
+same-length-3 c = search needs
+
+returns-2 : tie.Need-returns-2
+returns-2 c =
+    rows-all _ _ _ _ _ _ (c .before .before .before .before .before .before .before .before .before .before .before .before .before .before .before .input .ensures)
+    (all-told _ _ _ _ _ _ (c .before .before .before .before .before .before .before .before .before .before .before .before .before .before .before .input .ensures) _ (c .before .before .before .before .before .before .before .before .before .before .before .before .before .before .check .ensures) (c .before .before .before .before .before .before .before .before .before .before .before .before .before .is-sound .ensures) (not-false _ (c .before .before .before .before .before .before .before .before .before .before .before .before .if1 .left)))
+    (c .before .before .before .before .before .before .before .before .before .before .before .new .ensures)
+    (c .before .before .before .before .before .before .before .before .before .before .unknowns .ensures)
+    (c .before .before .before .before .before .before .put-rows .ensures)
+
+pub lattice-rows-spec : {M : Type 1} → statement M
+lattice-rows-spec =
+    tie.close
+    (tie.spec
+    input-requires
+    check-requires
+    is-sound-requires
+    returns
+    new-requires
+    unknowns-requires
+    put-rows-requires
+    same-length
+    same-length-2
+    same-length-3
+    returns-2)

@@ -1,0 +1,250 @@
+#!/usr/bin/env python3
+"""Cuts the Rust that the run compares with out of a checkout of its source.
+
+    cut.py SOURCE OUT [FAULT]
+
+SOURCE is the folder that holds src/fdfd/three.rs; what is cut becomes OUT/source/src/lib.rs. Each item is cut whole,
+by its name. What is changed in it stands in CHANGES, with the reason; each change must hit exactly once, and so must
+each name and each pattern. FAULT is one of FAULTS, a wrong change that the run has to notice; `--list` names them.
+"""
+
+import os
+import re
+import sys
+
+THREE = "src/fdfd/three.rs"
+MULTIGRID = "src/fdfd/three/multigrid.rs"
+
+# What is cut: file, the type whose `impl` holds it (None: it stands alone), the names.
+ITEMS = [
+    (THREE, None, ["enum Axis"]),
+    (THREE, "Axis", ["const ALL", "fn index", "fn others"]),
+    (THREE, None, ["struct Grid3d"]),
+    (THREE, "Grid3d", ["fn cells", "fn unknowns", "fn n", "fn step", "fn index", "fn at"]),
+    (THREE, None, ["struct Boundaries3d"]),
+    (THREE, "Boundaries3d", ["fn edges"]),
+    (THREE, None, ["struct Lattice"]),
+    (THREE, "Lattice", [
+        "fn shift", "fn fixed", "fn neighbour", "fn curl_e", "fn curl_h", "fn curl_curl_into", "fn row_into",
+        "fn node_fixed", "fn divergence", "fn node_eps", "fn gradient",
+    ]),
+    (MULTIGRID, None, ["struct Line"]),
+    (MULTIGRID, "Line", ["fn finest", "fn cells", "fn coarser", "fn nodes_of", "fn place"]),
+    (MULTIGRID, "Line", ["fn coarser as coarser_by_norm"]),
+    (MULTIGRID, None, ["const ANISOTROPY", "struct Stretched"]),
+    (MULTIGRID, "Stretched", ["fn new"]),
+    (MULTIGRID, None, ["fn stencil_row"]),
+]
+
+# What is changed: the item, a pattern, what takes its place, the reason. All are ordered by the specification but the one
+# that only gives the second copy of `coarser` its name.
+CHANGES = [
+    ("Lattice::shift", r"\{ k \}", "{ p }", "a Bloch axis carries its phase p in place of the wavenumber"),
+    ("Lattice::shift", r"\n *let turns = [^\n]*", "", "p is handed in in place of from_polar"),
+    ("Lattice::shift", r"\n *let period = [^\n]*", "", "p is handed in in place of from_polar"),
+    ("Lattice::shift", r"c64::from_polar\([^)]*\)", "if to < 0 { p.conj() } else { p }",
+     "p is handed in; in the operator the backward phase is the conjugate of p"),
+    ("Line::coarser", r"\((x\[[^\n]*\])\)\.norm\(\) <= target\b", r"squares(\1) <= target * target",
+     "the squares take the place of norm"),
+    ("Line::coarser_by_norm", r"\bfn coarser\b", "fn coarser_by_norm", "the original, kept beside the changed one"),
+    ("stencil_row", r"\bsort_unstable_by_key\b", "sort_by_key", "the sort is a stable one"),
+]
+
+# The level loop: lines of Hierarchy::build, in their order, cut by how they begin, and lines of our own (marked +),
+# which stand for the work on matrices between them.
+LOOP = [
+    "+pub fn level_lines(lattice: &Lattice, options: &Options) -> Option<Vec<[Line; 3]>> {",
+    "+let mut levels = Vec::new();",
+    "let mut fine = ",
+    "let g = lattice",
+    "let mut lines = ",
+    "let stretched = ",
+    "loop {",
+    "+if levels.len() == 12 { return None; }",
+    "let n = ",
+    "let anisotropy = ANISOTROPY",
+    "let target = ",
+    "let next_lines = ",
+    "let cells = ",
+    "if n <= options.coarsest",
+    "+levels.push(lines);",
+    "+return Some(levels);",
+    "+}",
+    "let gc = Grid3d {",
+    "+fine.grid = gc;",
+    "+levels.push(lines);",
+    "lines = next_lines",
+    "+}",
+    "+}",
+]
+
+# Stand-ins for what is not in the source at hand, or holds more than is needed here.
+STAND_INS = """\
+// In place of crate::fdfd::Edges: a wall holds nothing, a Bloch axis its phase.
+#[derive(Clone, Copy, Debug, PartialEq)]
+pub enum Edges {
+    Pml,
+    Bloch { p: c64 },
+}
+
+// In place of Multigrid: of its options the level loop reads this one.
+pub struct Options {
+    pub coarsest: usize,
+}
+
+// What the specification has in place of norm.
+pub fn squares(d: c64) -> f64 {
+    d.re * d.re + d.im * d.im
+}
+"""
+
+# Wrong changes, to see that the run can fail: the item, a pattern, what takes its place.
+FAULTS = {
+    "lost-conjugate": ("Lattice::shift", r"p\.conj\(\)", "p"),
+    "inverse-phase": ("Lattice::shift", r"p\.conj\(\)", "p.inv()"),
+    "swapped-neighbour": ("Lattice::curl_e", r"along, 1\)", "along, -1)"),
+    "swapped-axes": ("Lattice::curl_h", r"\(b, c, 1\.0\), \(c, b, -1\.0\)", "(c, b, 1.0), (b, c, -1.0)"),
+    "wrong-factor": ("Stretched::new", r"0\.5 \* s", "0.25 * s"),
+    "lost-sign": ("Lattice::curl_curl_into", r"-wh \* we", "wh * we"),
+    "grouping": ("Lattice::row_into", r"-s \* wg \* wd \* eps\[col\] \* inverse",
+                 "-s * wg * wd * (eps[col] * inverse)"),
+    "strict-bound": ("Line::coarser", r"<= target \* target", "< target * target"),
+    "one-cell-less": ("Line::coarser", r"n < 4", "n < 3"),
+    "lost-wall": ("Lattice::fixed", r"a != c && ", ""),
+    "unfixed-node": ("Lattice::gradient", r"!self\.node_fixed\(here\)", "true"),
+    "other-map": ("level_lines", r"stretched\.across", "stretched.along"),
+}
+
+
+def stop(message):
+    sys.exit("differential/cut.py: " + message)
+
+
+def read(source, name):
+    path = os.path.join(source, name)
+    if not os.path.isfile(path):
+        stop(f"no {name} in {source}: give the folder of the source's checkout as the first argument of differential/run")
+    with open(path, encoding="utf-8") as file:
+        return file.read().split("\n")
+
+
+def block(lines, at, name):
+    """The item that starts at a line: its attributes, up to the line that closes it."""
+    first = at
+    while lines[first - 1].strip().startswith("#["):
+        first -= 1
+    if lines[at].endswith(";"):
+        return lines[first:at + 1]
+    indent = re.match(" *", lines[at]).group()
+    for last in range(at + 1, len(lines)):
+        if lines[last] in (indent + "}", indent + "};"):
+            return lines[first:last + 1]
+    stop(f"{name} doesn't end")
+
+
+def only(hits, what):
+    if len(hits) != 1:
+        stop(f"{what} is met {len(hits)} times, not once")
+    return hits[0]
+
+
+def inside(lines, of, name):
+    """The line numbers of a file in which an item is looked for: all, or those of the type's impl blocks."""
+    if of is None:
+        return range(len(lines)), ""
+    found = []
+    for at in [k for k, line in enumerate(lines) if line == f"impl {of} {{"]:
+        found += range(at + 1, at + len(block(lines, at, name)))
+    return found, "    "
+
+
+def cut(lines, of, item):
+    """One item, and the name that it goes by here."""
+    word, name = item.split(" as ")[0].split(" ")
+    alias = item.split(" as ")[-1] if " as " in item else name
+    full = f"{of}::{alias}" if of else alias
+    where, indent = inside(lines, of, full)
+    start = re.compile(rf"{indent}(pub(\(crate\))? )?{word} {name}\b")
+    at = only([k for k in where if start.match(lines[k])], f"{word} {name}" + (f" of {of}" if of else ""))
+    return full, "\n".join(block(lines, at, full))
+
+
+def cut_loop(lines):
+    """The level loop, put together from lines of Hierarchy::build."""
+    where, _ = inside(lines, "Hierarchy", "build")
+    at = only([k for k in where if re.match(r"    fn build\(", lines[k])], "fn build of Hierarchy")
+    body = block(lines, at, "build")
+    out, last = [], 0
+    for part in LOOP:
+        if part.startswith("+"):
+            out.append(part[1:])
+            continue
+        hit = only([k for k, line in enumerate(body) if line.strip().startswith(part)], f"the line `{part}..` of build")
+        if hit <= last:
+            stop(f"the line `{part}..` of build stands before the one that it should follow")
+        last = hit
+        out += block(body, hit, part) if part.endswith("Grid3d {") else [body[hit]]
+    return "level_lines", "\n".join(line for line in out if not line.strip().startswith("#["))
+
+
+def change(items, full, pattern, text, why):
+    old = items[full]
+    new, hits = re.subn(pattern, text, old)
+    if hits != 1:
+        stop(f"the change of {full} ({why}) hits {hits} times, not once")
+    items[full] = new
+
+
+def public(text):
+    """Everything visible: the one change that is made throughout."""
+    text = text.replace("pub(crate) ", "pub ")
+    text = re.sub(r"^( *)(fn|struct|const|enum) ", r"\1pub \2 ", text, count=1, flags=re.M)
+    if re.search(r"^pub struct", text, flags=re.M):
+        text = re.sub(r"^    (\w+:)", r"    pub \1", text, flags=re.M)
+    return text
+
+
+def main():
+    if sys.argv[1:] == ["--list"]:
+        print("\n".join(FAULTS))
+        return
+    if len(sys.argv) not in (3, 4):
+        stop("usage: cut.py SOURCE OUT [FAULT]")
+    source, out = sys.argv[1:3]
+    fault = sys.argv[3] if len(sys.argv) == 4 else ""
+    if fault and fault not in FAULTS:
+        stop(f"no fault {fault}: there are {', '.join(FAULTS)}")
+    files = {name: read(source, name) for name in (THREE, MULTIGRID)}
+    items, of_type = {}, {}
+    for name, of, wanted in ITEMS:
+        for item in wanted:
+            full, text = cut(files[name], of, item)
+            items[full], of_type[full] = text, of
+    full, text = cut_loop(files[MULTIGRID])
+    items[full], of_type[full] = text, None
+    for full, pattern, text, why in CHANGES:
+        change(items, full, pattern, text, why)
+    if fault:
+        full, pattern, text = FAULTS[fault]
+        change(items, full, pattern, text, "the planted fault " + fault)
+    parts = ["// Cut out of the source by differential/cut.py. Not part of the repository.\n"
+             "#![allow(dead_code)]\n\nuse num_complex::Complex64 as c64;\n", STAND_INS]
+    for full, text in items.items():
+        text = public(text)
+        parts.append(f"impl {of_type[full]} {{\n{text}\n}}\n" if of_type[full] else text + "\n")
+    write(os.path.join(out, "source/src/lib.rs"), "\n".join(parts))
+    print(f"cut {len(items)} items out of {source}, {len(CHANGES)} changes" + (f", the fault {fault}" if fault else ""))
+
+
+def write(path, text):
+    """The file, left alone where it holds the text already, so that nothing is built again without need."""
+    os.makedirs(os.path.dirname(path), exist_ok=True)
+    if os.path.isfile(path):
+        with open(path, encoding="utf-8") as file:
+            if file.read() == text:
+                return
+    with open(path, "w", encoding="utf-8") as file:
+        file.write(text)
+
+
+main()

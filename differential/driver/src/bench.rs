@@ -1,0 +1,112 @@
+// The same work on both sides, each in a function of its own, whose instructions callgrind counts.
+
+use crate::case::Case;
+use crate::{generate, ours, random::Random};
+use source::{Options, Stretched};
+use std::hint::black_box;
+
+// What one side leaves, in the lists that our side is lent.
+pub struct Lists {
+    words: [Vec<usize>; 3],
+    doubles: [Vec<f64>; 2],
+}
+
+#[unsafe(no_mangle)]
+#[inline(never)]
+pub fn bench_rows_ours(c: &Case, l: &mut Lists) -> usize {
+    let [starts, columns, _] = &mut l.words;
+    ours::rows(c, starts, columns, &mut l.doubles[0])
+}
+
+#[unsafe(no_mangle)]
+#[inline(never)]
+pub fn bench_rows_rust(c: &Case, l: &mut Lists) -> usize {
+    let lattice = c.lattice();
+    let eps = c.numbers(6);
+    let mut row = Vec::new();
+    let mut from = 0;
+    for r in 0..eps.len() {
+        l.words[0][r] = from;
+        lattice.row_into(&eps, -1.0, r, &mut row);
+        for &(column, v) in &row {
+            l.words[1][from] = column;
+            l.doubles[0][2 * from] = v.re;
+            l.doubles[0][2 * from + 1] = v.im;
+            from += 1;
+        }
+    }
+    l.words[0][eps.len()] = from;
+    from
+}
+
+#[unsafe(no_mangle)]
+#[inline(never)]
+pub fn bench_lines_ours(c: &Case, l: &mut Lists) -> usize {
+    let [out, counts, ends] = &mut l.words;
+    ours::levels(c, &mut out[..2], &mut counts[..36], &mut ends[..36 * 65]);
+    out[1]
+}
+
+#[unsafe(no_mangle)]
+#[inline(never)]
+pub fn bench_lines_rust(c: &Case, l: &mut Lists) -> usize {
+    let levels = source::level_lines(&c.lattice(), &Options { coarsest: c.coarsest }).unwrap_or_default();
+    let [_, counts, ends] = &mut l.words;
+    counts[..36].fill(0);
+    ends[..36 * 65].fill(0);
+    for (q, line) in levels.iter().flatten().enumerate() {
+        counts[q] = line.cells();
+        ends[65 * q..65 * q + line.ends.len()].copy_from_slice(&line.ends);
+    }
+    levels.len()
+}
+
+#[unsafe(no_mangle)]
+#[inline(never)]
+pub fn bench_maps_ours(c: &Case, l: &mut Lists) -> usize {
+    let [across, along] = &mut l.doubles;
+    ours::maps(c, 0, &mut across[..258], &mut along[..258])
+}
+
+#[unsafe(no_mangle)]
+#[inline(never)]
+pub fn bench_maps_rust(c: &Case, l: &mut Lists) -> usize {
+    let maps = Stretched::new(&c.lattice());
+    let [across, along] = &mut l.doubles;
+    for (list, map) in [(across, &maps.across[0]), (along, &maps.along[0])] {
+        for (k, z) in map.iter().enumerate() {
+            list[2 * k] = z.re;
+            list[2 * k + 1] = z.im;
+        }
+    }
+    maps.across[0].len()
+}
+
+// One of rows, lines and maps on one side, named as above.
+pub fn run(name: &str) -> Result<(), String> {
+    let cube = name.starts_with("rows");
+    let cells = if cube { [16, 16, 16] } else { [64, 1, 1] };
+    let mut c = generate::filled(&mut Random::new(1), cells, [true; 3]);
+    c.scalars = Case::plain(cells).scalars;
+    for axis in 0..3 {
+        c.set_kind(axis, true);
+        c.set_phase(axis, num_complex::Complex64::new(0.6, 0.8));
+        c.lists[2 * axis] = [1.0, 0.0].repeat(cells[axis]);
+        c.lists[2 * axis + 1] = [1.0, 0.0].repeat(cells[axis]);
+    }
+    c.coarsest = 1;
+    let n = 29 * 3 * 4096;
+    let mut l = Lists { words: [vec![0; n], vec![0; n], vec![0; n]], doubles: [vec![0.0; 2 * n], vec![0.0; 2 * n]] };
+    let work = match name {
+        "rows_ours" => bench_rows_ours,
+        "rows_rust" => bench_rows_rust,
+        "lines_ours" => bench_lines_ours,
+        "lines_rust" => bench_lines_rust,
+        "maps_ours" => bench_maps_ours,
+        "maps_rust" => bench_maps_rust,
+        _ => return Err(format!("no benchmark {name}")),
+    };
+    println!("{name}: {}", black_box(work(black_box(&c), black_box(&mut l))));
+    black_box(&l.doubles);
+    Ok(())
+}

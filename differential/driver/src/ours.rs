@@ -1,0 +1,81 @@
+// The static library: a Rattle slice is a pointer and then a length.
+
+use crate::case::Case;
+
+unsafe extern "C" {
+    fn lattice_check(
+        cells: *const usize, cells_len: usize, scalars: *const f64, scalars_len: usize,
+        xn: *const f64, xn_len: usize, xh: *const f64, xh_len: usize,
+        yn: *const f64, yn_len: usize, yh: *const f64, yh_len: usize,
+        zn: *const f64, zn_len: usize, zh: *const f64, zh_len: usize,
+        eps: *const f64, eps_len: usize,
+        out: *mut usize, out_len: usize,
+    );
+    fn lattice_levels(
+        cells: *const usize, cells_len: usize, scalars: *const f64, scalars_len: usize,
+        xn: *const f64, xn_len: usize, xh: *const f64, xh_len: usize,
+        yn: *const f64, yn_len: usize, yh: *const f64, yh_len: usize,
+        zn: *const f64, zn_len: usize, zh: *const f64, zh_len: usize,
+        coarsest: usize,
+        out: *mut usize, out_len: usize, counts: *mut usize, counts_len: usize,
+        ends: *mut usize, ends_len: usize,
+    );
+    fn lattice_maps(
+        cells: *const usize, cells_len: usize, scalars: *const f64, scalars_len: usize,
+        xn: *const f64, xn_len: usize, xh: *const f64, xh_len: usize,
+        yn: *const f64, yn_len: usize, yh: *const f64, yh_len: usize,
+        zn: *const f64, zn_len: usize, zh: *const f64, zh_len: usize,
+        axis: usize,
+        across: *mut f64, across_len: usize, along: *mut f64, along_len: usize,
+    ) -> usize;
+    fn lattice_rows(
+        cells: *const usize, cells_len: usize, scalars: *const f64, scalars_len: usize,
+        xn: *const f64, xn_len: usize, xh: *const f64, xh_len: usize,
+        yn: *const f64, yn_len: usize, yh: *const f64, yh_len: usize,
+        zn: *const f64, zn_len: usize, zh: *const f64, zh_len: usize,
+        eps: *const f64, eps_len: usize,
+        starts: *mut usize, starts_len: usize, columns: *mut usize, columns_len: usize,
+        values: *mut f64, values_len: usize,
+    ) -> usize;
+}
+
+// Calls a function with the input that all of them begin with, then further arguments.
+macro_rules! call {
+    ($function:ident, $c:expr, $($more:expr),*) => {{
+        let c = $c;
+        let l = &c.lists;
+        // SAFETY: each pointer comes with the length of the list that it points to, and the lists lent for results
+        // are borrowed for the call alone.
+        unsafe {
+            $function(
+                c.cells.as_ptr(), c.cells.len(), c.scalars.as_ptr(), c.scalars.len(),
+                l[0].as_ptr(), l[0].len(), l[1].as_ptr(), l[1].len(),
+                l[2].as_ptr(), l[2].len(), l[3].as_ptr(), l[3].len(),
+                l[4].as_ptr(), l[4].len(), l[5].as_ptr(), l[5].len(),
+                $($more),*
+            )
+        }
+    }};
+}
+
+pub fn check(c: &Case, out: &mut [usize]) {
+    call!(lattice_check, c, c.lists[6].as_ptr(), c.lists[6].len(), out.as_mut_ptr(), out.len())
+}
+
+pub fn levels(c: &Case, out: &mut [usize], counts: &mut [usize], ends: &mut [usize]) {
+    call!(
+        lattice_levels, c, c.coarsest, out.as_mut_ptr(), out.len(), counts.as_mut_ptr(), counts.len(),
+        ends.as_mut_ptr(), ends.len()
+    )
+}
+
+pub fn maps(c: &Case, axis: usize, across: &mut [f64], along: &mut [f64]) -> usize {
+    call!(lattice_maps, c, axis, across.as_mut_ptr(), across.len(), along.as_mut_ptr(), along.len())
+}
+
+pub fn rows(c: &Case, starts: &mut [usize], columns: &mut [usize], values: &mut [f64]) -> usize {
+    call!(
+        lattice_rows, c, c.lists[6].as_ptr(), c.lists[6].len(), starts.as_mut_ptr(), starts.len(),
+        columns.as_mut_ptr(), columns.len(), values.as_mut_ptr(), values.len()
+    )
+}

@@ -1,0 +1,97 @@
+#!/usr/bin/env python3
+"""The code under test with a planted fault, as a library that nothing proves.
+
+    unproved.py CRATES OUT [FAULT]
+
+The prover makes no library of code with a fault in it, so here the .rt files, contracts left out, are put together
+as one Rust file and compiled by rustc into OUT/liblattice_c.a. Only to see that the run can fail. Without FAULT the
+code is left as it is; each of FAULTS must hit exactly once. `--list` names them.
+"""
+
+import os
+import re
+import subprocess
+import sys
+
+# The file, what is found there, what takes its place.
+FAULTS = {
+    "lost-conjugate": ("lattice/src/neighbours.rt", "numbers::conj(C64 { re, im })", "C64 { re, im }"),
+    "swapped-neighbour": ("lattice/src/curls.rt", "grid::with_component(p, field), along, true)",
+                          "grid::with_component(p, field), along, false)"),
+    "swapped-axes": ("lattice/src/curls.rt", "behind(l, p, b, c, 1.0, 0, columns, values)",
+                     "behind(l, p, c, b, 1.0, 0, columns, values)"),
+    "wrong-factor": ("lattice/src/stretched.rt", "numbers::real_times(0.5, lattice::half(", "numbers::real_times(0.25, lattice::half("),
+    "wrong-node": ("lattice/src/stretched.rt", "(p + 1) / 2", "p / 2"),
+    "lost-sign": ("lattice/src/rows.rt", "numbers::mul(numbers::neg(wh), we)", "numbers::mul(wh, we)"),
+    "grouping": ("lattice/src/rows.rt", "numbers::mul(numbers::mul(w, numbers::get(eps, column)), inverse)",
+                 "numbers::mul(w, numbers::mul(numbers::get(eps, column), inverse))"),
+    "negated-zero": ("numbers/src/lib.rt", "0.0 - r * y.im / n", "-(r * y.im / n)"),
+    "strict-bound": ("lattice/src/line.rt", "<= target * target", "< target * target"),
+    "one-cell-less": ("lattice/src/line.rt", "n < 4", "n < 3"),
+    "one-level-less": ("lattice/src/levels.rt", "for level in 0..12", "for level in 0..11"),
+    "wrong-coarsest": ("lattice/src/levels.rt", "edges(t) <= coarsest", "edges(t) < coarsest"),
+    "lost-wall": ("lattice/src/neighbours.rt", "2 != c && on_wall(l, p, 2)", "on_wall(l, p, 2)"),
+    "wrong-position": ("lattice/src/check.rt", "Checked::Entry(position + n + m)", "Checked::Entry(position + m)"),
+    "wrong-order": ("lattice/src/check.rt", "if bad_length(g.dx) {", "if bad_length(v.k0) {\n        return Checked::Scalar(3);\n    }\n    if bad_length(g.dx) {"),
+    "wrong-limit": ("lattice/src/check.rt", "4096 < g.nx", "4095 < g.nx"),
+}
+
+
+def stop(message):
+    sys.exit("differential/unproved.py: " + message)
+
+
+def plain(crates, name, fault):
+    """A file with its contracts left out."""
+    with open(os.path.join(crates, name), encoding="utf-8") as file:
+        text = file.read()
+    if fault and FAULTS[fault][0] == name:
+        _, old, new = FAULTS[fault]
+        if text.count(old) != 1:
+            stop(f"the fault {fault} hits {text.count(old)} times in {name}, not once")
+        text = text.replace(old, new)
+    lines, depth = [], 0
+    for line in text.split("\n"):
+        start = line.strip()
+        if depth > 0 or start.startswith(("requires {", "ensures {")):
+            depth += line.count("{") - line.count("}")
+        elif not start.startswith("ghost use"):
+            lines.append(line)
+    text = "\n".join(lines)
+    return re.sub(r"^pub (struct|enum) ", r"#[derive(Clone, Copy)]\npub \1 ", text, flags=re.M)
+
+
+def main():
+    if sys.argv[1:] == ["--list"]:
+        print("\n".join(FAULTS))
+        return
+    if len(sys.argv) not in (3, 4):
+        stop("usage: unproved.py CRATES OUT [FAULT]")
+    crates, out = sys.argv[1:3]
+    fault = sys.argv[3] if len(sys.argv) == 4 else ""
+    if fault and fault not in FAULTS:
+        stop(f"no fault {fault}")
+    parts = ["#![allow(unused, improper_ctypes_definitions)]",
+             "pub mod numbers {\n" + plain(crates, "numbers/src/lib.rt", fault) + "\n}", "pub mod lattice {"]
+    for name in sorted(os.listdir(os.path.join(crates, "lattice/src"))):
+        if name != "lib.rt":
+            text = plain(crates, "lattice/src/" + name, fault)
+            text = text.replace("crate::", "crate::lattice::").replace("use numbers::", "use crate::numbers::")
+            parts.append(f"pub mod {name[:-3]} {{\nuse crate::numbers;\n{text}\n}}")
+    parts += ["}", plain(crates, "lattice_c/src/lib.rt", fault)]
+    os.makedirs(out, exist_ok=True)
+    with open(os.path.join(out, "unproved.rs"), "w", encoding="utf-8") as file:
+        file.write("\n".join(parts))
+    # an object alone: what it needs of Rust's core is in the driver
+    made = subprocess.run(["rustc", "--edition", "2021", "--crate-type", "rlib", "--emit", "obj", "-C", "opt-level=2",
+                           "-C", "codegen-units=1", "-C", "panic=abort", "unproved.rs", "-o", "unproved.o"],
+                          cwd=out, stderr=subprocess.PIPE, text=True)
+    if made.returncode != 0:
+        stop("the files don't compile as Rust:\n" + made.stderr)
+    library = os.path.join(out, "liblattice_c.a")
+    if os.path.exists(library):
+        os.remove(library)
+    subprocess.run(["ar", "crs", "liblattice_c.a", "unproved.o"], cwd=out, check=True)
+
+
+main()
