@@ -18,7 +18,7 @@ use Rattle.lattice.specs.Grid.{Limits, unknownsOf}
 use Rattle.lattice.specs.Lattice.{Lengths}
 use Rattle.lattice.specs.Check.{andThen, isSound, badCells, checkGrid, badLength, badPhase, checkScalars, badNumber, Given, given, stretches, checkLengths, firstBad, checkEntries, checkAll, checkOf, checkStretches}
 use Rattle.lattice.specs.declared.grid.Grid3d.{Grid3d}
-use Rattle.lattice.specs.declared.lattice.Input.{Input}
+use Rattle.lattice.specs.declared.lattice.Lattice.{Lattice}
 use Rattle.lattice.specs.declared.check.Checked.{Checked}
 use Rattle.lattice.specs.declared.check.Checked.the-variants.{Sound, Cells, Scalar, Length, Entry}
 
@@ -131,16 +131,16 @@ module _ (i : ℕ) (b : Bool) (bs : List Bool) where
   unfolding firstMet
   test-passed e = rw e
 
-abbrev pub scalarTests : Input → List Bool
+abbrev pub scalarTests : Lattice → List Bool
 scalarTests v =
     badLength (v .grid .dx) ∷ (badLength (v .grid .dy) ∷ (badLength (v .grid .dz) ∷ (badLength (v .k0) ∷ (not (finiteDouble (v .shift))
     ∷ (badPhase (v .x) ∷ (badPhase (v .y) ∷ (badPhase (v .z) ∷ [])))))))
 
 -- the first i tests are passed
-abbrev pub Passed : ℕ → Input → Type 0
+abbrev pub Passed : ℕ → Lattice → Type 0
 Passed i v = checkScalars v ≡ firstMet i (drop i (scalarTests v))
 
-pub scalars-by-test : (v : Input) → Passed 0 v
+pub scalars-by-test : (v : Lattice) → Passed 0 v
 unfolding checkScalars firstMet
 scalars-by-test v = refl
 
@@ -271,10 +271,10 @@ module _ (g : Grid3d) (xn xh yn yh zn zh : List Float) where
       let h = length-told 5 (g .nz) zh [] (f .1) in
       (record { x-long = a .0; y-long = c .0; z-long = f .0 }, record { x-long = b .0; y-long = d .0; z-long = h .0 })
 
-pub grid-sound : (v : Input) → isSound (andThen (checkGrid (v .grid)) (checkScalars v)) ≡ true → Limits (v .grid)
+pub grid-sound : (v : Lattice) → isSound (andThen (checkGrid (v .grid)) (checkScalars v)) ≡ true → Limits (v .grid)
 grid-sound v e = limits-are (v .grid) (and-first (checkGrid (v .grid)) (checkScalars v) e)
 
-module _ (v : Input) (xn xh yn yh zn zh : List Float) where
+module _ (v : Lattice) (xn xh yn yh zn zh : List Float) where
   pub stretches-by-check : checkStretches v xn xh yn yh zn zh
       ≡ andThen (andThen (checkGrid (v .grid)) (checkScalars v))
       (andThen (checkLengths 0 (stretches (v .grid) xn xh yn yh zn zh)) (checkEntries 0 (stretches (v .grid) xn xh yn yh zn zh)))

@@ -45,7 +45,7 @@ use Rattle.lattice.specs.declared.grid.Grid3d.{Grid3d}
 use Rattle.lattice.specs.declared.grid.Position.{Position}
 use Rattle.lattice.specs.declared.lattice.Edges.{Edges}
 use Rattle.lattice.specs.declared.lattice.Edges.the-variants.{Pml, Bloch}
-use Rattle.lattice.specs.declared.lattice.Lattice.{Lattice}
+use Rattle.lattice.specs.Lattice.{Medium}
 use Rattle.lattice.specs.declared.neighbours.Arrival.{Arrival}
 use Rattle.lattice.specs.declared.neighbours.Arrival.the-variants.{To, Beyond}
 
@@ -230,7 +230,7 @@ shift-below e n m false k w h q = go (eqb m 0) e q
     go true (Bloch re im) q = let z : n - 1 ≡ k = cc in omega arith
     go false e q = let z : m - 1 ≡ k = cc in omega arith
 
-pub neighbour-below : (l : Lattice) (p : Position) (a : ℕ) (up : Bool) (c : ℕ) (w : C64)
+pub neighbour-below : (l : Medium) (p : Position) (a : ℕ) (up : Bool) (c : ℕ) (w : C64)
     → Limits (l .grid)
     → Inside (l .grid) p
     → neighbourOf l p a up ≡ To c w

@@ -1,19 +1,24 @@
 -- The lists of a lattice record: each place of the stretches, by the axis that it belongs to.
 -- Assumes nothing.
 use Prim.Native.Nat.{ℕ, _+_, _*_, _/_, _%_, _<_, _≤_}
-use mathlib.Core.Path.{_≡_, sym, _∙_, ap, subst}
+use mathlib.Core.Path.{_≡_, refl, sym, _∙_, ap, subst}
 use mathlib.Core.List.{List}
 use native.Mathlib.Omega.{arith}
+use native.Mathlib.Decide.{ℕ-discrete}
+use native.Mathlib.Nat.{not-suc-le-zero}
 use borrow.Author.Tests.{lt-ltb, le-ltb}
 use lib.ListN.{length, replicate}
 use lib.Ieee.{Float}
-use Rattle.numbers.specs.Complex.{zeroNumber}
-use Rattle.numbers.specs.Places.{numberAt}
+use Rattle.numbers.specs.declared.C64.{C64}
+use Rattle.numbers.specs.Complex.{zeroNumber, noNumber}
+use Rattle.numbers.specs.Places.{places, numberAt, setNumber}
+use Rattle.numbers.proofs.Laws.{length-setNumber, number-same, number-other}
 use Rattle.lattice.specs.Grid.{axis3, nOf}
-use Rattle.lattice.specs.Lattice.{stretchAt, Lengths}
+use Rattle.lattice.specs.Lattice.{Medium, medium, tabulate, nodesAt, halvesAt, stretchNo, halfNo, stretchAt, latticeOf, Lengths, LaidStretches}
+use Rattle.lattice.specs.declared.lattice.Lattice.{Lattice}
 use Rattle.lattice.specs.declared.grid.Grid3d.{Grid3d}
 use Rattle.lattice.proofs.GridLaws.{axis-first, axis-second, axis-third}
-use Rattle.lattice.proofs.TabulateLaws.{Filled, filled-start}
+use Rattle.lattice.proofs.TabulateLaws.{tabulate-at-0, tabulate-agree, Filled, filled-start}
 
 -- the list of an axis has the numbers below the axis's cells
 module _ {g : Grid3d} {xs ys zs : List Float} (l : Lengths g xs ys zs) (a m : ℕ) (h : m < nOf g a) where
@@ -51,3 +56,80 @@ module _ (g : Grid3d) (xs ys zs : List Float) (q : ℕ) where
 -- an array is made of n times a value that a call gave
 pub filled-first : {A : Type 0} {f : ℕ → A} {z d y : A} {n : ℕ} → y ≡ z → Filled f z d n 0 (replicate n y)
 filled-first {A} {f} {z} {d} {y} {n} e = subst (λ (x : A). Filled f z d n 0 (replicate n x)) (sym e) filled-start
+
+-- ---- the list of stretches
+
+module _ (st : List Float) (k : ℕ) where
+  pub stretch-held : k < length st / 2 → numberAt st k ≡ stretchNo st k
+  unfolding stretchNo
+  stretch-held h = rw (lt-ltb k (length st / 2) h)
+
+  pub stretch-none : length st / 2 ≤ k → noNumber ≡ stretchNo st k
+  unfolding stretchNo
+  stretch-none h = rw (le-ltb k (length st / 2) h)
+
+-- the record's stretches are those of the list
+pub node-is : (l : Lattice) (st : List Float) (a m : ℕ) → a < 3 → m < 64 → stretchNo st (64 * a + m) ≡ nodesAt (medium l st) a m
+unfolding nodesAt
+node-is l st a m h b = sym (tabulate-at-0 (stretchNo st) 192 (64 * a + m) noNumber (omega arith))
+
+pub half-is : (l : Lattice) (st : List Float) (a m : ℕ) → a < 3 → m < 64 → stretchNo st (192 + 64 * a + m) ≡ halvesAt (medium l st) a m
+unfolding halvesAt
+half-is l st a m h b =
+    let e : 192 + 64 * a + m ≡ 192 + (64 * a + m) = omega arith in
+    ap (stretchNo st) e ∙ sym (tabulate-at-0 (halfNo st) 192 (64 * a + m) noNumber (omega arith))
+
+pub laid-start : (f : ℕ → C64) (from : ℕ) (xs : List Float) → LaidStretches f from 0 xs xs
+laid-start f from xs =
+    record { long = refl; inside = λ k h b. absurd (not-suc-le-zero h); before = λ k h. refl; behind = λ k h. refl }
+
+pub laid-turn : {f : ℕ → C64} {from q : ℕ} {xs ys : List Float} {v : C64} → LaidStretches f from q xs ys → v ≡ f q
+    → LaidStretches f from (q + 1) xs (setNumber ys (from + q) v)
+unfolding places
+laid-turn {f} {from} {q} {xs} {ys} {v} l e =
+    record {
+      long = length-setNumber ys (from + q) v ∙ l .long;
+      inside = λ k h b. go k h b (ℕ-discrete k q);
+      before = λ k h. number-other ys (from + q) k v (omega arith) ∙ l .before k h;
+      behind = λ k h. number-other ys (from + q) k v (omega arith) ∙ l .behind k (omega arith);
+    }
+  where
+    go : (k : ℕ) → k < q + 1 → from + k < places xs → Dec (k ≡ q) → numberAt (setNumber ys (from + q) v) (from + k) ≡ f k
+    go k h b (yes o) =
+        subst (λ (j : ℕ). numberAt (setNumber ys (from + q) v) (from + j) ≡ f j) (sym o)
+        (number-same ys (from + q) v (omega (arith, l .long)) ∙ e)
+    go k h b (no n) = number-other ys (from + q) (from + k) v (omega arith) ∙ l .inside k (omega arith) b
+
+-- both halves of the list make the record of the six lists
+module _ (v : Lattice) (xn xh yn yh zn zh : List Float) where
+  pub medium-is : {xs ys zs : List Float} → length xs ≡ 768 → LaidStretches (stretchAt (v .grid) xn yn zn) 0 192 xs ys
+      → LaidStretches (stretchAt (v .grid) xh yh zh) 192 192 ys zs → (length zs ≡ 768) × (medium v zs ≡ latticeOf v xn xh yn yh zn zh)
+  unfolding latticeOf places
+  medium-is {xs} {ys} {zs} e a b = (
+    long,
+    λ i.
+        record {
+          grid = v .grid;
+          x = v .x;
+          y = v .y;
+          z = v .z;
+          k0 = v .k0;
+          shift = v .shift;
+          nodes = tabulate-agree (stretchNo zs) (stretchAt (v .grid) xn yn zn) 192 noNumber low i;
+          halves = tabulate-agree (halfNo zs) (stretchAt (v .grid) xh yh zh) 192 noNumber high i;
+        },
+  )
+    where
+      long : length zs ≡ 768
+      long = b .long ∙ a .long ∙ e
+
+      low : (k : ℕ) → k < 192 → stretchNo zs k ≡ stretchAt (v .grid) xn yn zn k
+      low k h = sym (stretch-held zs k (omega (arith, long))) ∙ b .before k h ∙ first k h
+        where
+          first : (k : ℕ) → k < 192 → numberAt ys k ≡ stretchAt (v .grid) xn yn zn k
+          first k h =
+              let o : 0 + k ≡ k = omega arith in
+              subst (λ (j : ℕ). numberAt ys j ≡ stretchAt (v .grid) xn yn zn k) o (a .inside k h (omega (arith, e)))
+
+      high : (k : ℕ) → k < 192 → halfNo zs k ≡ stretchAt (v .grid) xh yh zh k
+      high k h = sym (stretch-held zs (192 + k) (omega (arith, long))) ∙ b .inside k h (omega (arith, a .long, e))

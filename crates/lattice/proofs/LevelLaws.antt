@@ -19,7 +19,7 @@ use Rattle.lattice.specs.Lattice.{tabulate, latticeOf}
 use Rattle.lattice.specs.Stretched.{acrossMap}
 use Rattle.lattice.specs.Line.{packed, endsOf, coarserEnds, LineOver, Held}
 use Rattle.lattice.specs.Levels.{target, lineAt, cellsAt, edgesAt, same, stops, depthFrom, depthOf, noLine, lineNo, countOf, linesOf, mapsOf, threeAt, coarserThree, edgesOf, sameCells, noLines, answerTo, found, foundIf}
-use Rattle.lattice.specs.declared.lattice.Lattice.{Lattice}
+use Rattle.lattice.specs.Lattice.{Medium}
 use Rattle.lattice.specs.declared.line.Line.{Line}
 use Rattle.lattice.specs.declared.levels.Depth.{Depth}
 use Rattle.lattice.specs.declared.levels.Three.{Three}
@@ -27,7 +27,7 @@ use Rattle.lattice.specs.declared.levels.Maps.{Maps}
 use Rattle.lattice.specs.declared.levels.Lines.{Lines}
 use Rattle.lattice.specs.declared.levels.Answer.{Answer}
 use Rattle.lattice.specs.declared.levels.LevelLines.{LevelLines}
-use Rattle.lattice.specs.declared.lattice.Input.{Input}
+use Rattle.lattice.specs.declared.lattice.Lattice.{Lattice}
 use Rattle.lattice.specs.declared.check.Checked.{Checked}
 use Rattle.lattice.specs.declared.check.Checked.the-variants.{Sound, Cells, Scalar, Length, Entry}
 use Rattle.lattice.proofs.GridLaws.{n-some, n-most}
@@ -53,23 +53,23 @@ in-double p h = let e : leb p 9007199254740992 ≡ true = le-leb p 9007199254740
 -- ---- a level
 
 -- each axis's line on each level is a line over the axis's cells
-pub line-over : (l : Lattice) → Limits (l .grid) → (a L : ℕ) → LineOver (nOf (l .grid) a) (lineAt l a L)
+pub line-over : (l : Medium) → Limits (l .grid) → (a L : ℕ) → LineOver (nOf (l .grid) a) (lineAt l a L)
 unfolding lineAt
 line-over l h a zero = finest-over (nOf (l .grid) a) (n-some h a) (n-most h a)
 line-over l h a (suc L) = coarser-over (acrossMap l a) (target L) (nOf (l .grid) a) (lineAt l a L) (line-over l h a L)
 
-line-held : (l : Lattice) → Limits (l .grid) → (a L : ℕ) → Held (packed (lineAt l a L))
+line-held : (l : Medium) → Limits (l .grid) → (a L : ℕ) → Held (packed (lineAt l a L))
 line-held l h a L = over-held (nOf (l .grid) a) (lineAt l a L) (n-most h a) (line-over l h a L)
 
-pub three-held : (l : Lattice) → Limits (l .grid) → (L : ℕ) → Held (threeAt l L .x) × Held (threeAt l L .y) × Held (threeAt l L .z)
+pub three-held : (l : Medium) → Limits (l .grid) → (L : ℕ) → Held (threeAt l L .x) × Held (threeAt l L .y) × Held (threeAt l L .z)
 unfolding threeAt
 three-held l h L = (line-held l h 0 L, line-held l h 1 L, line-held l h 2 L)
 
 -- a held line's ends are those that were packed
-line-ends : (l : Lattice) → Limits (l .grid) → (a L : ℕ) → endsOf (packed (lineAt l a L)) ≡ lineAt l a L
+line-ends : (l : Medium) → Limits (l .grid) → (a L : ℕ) → endsOf (packed (lineAt l a L)) ≡ lineAt l a L
 line-ends l h a L = let o = line-over l h a L in ends-packed (lineAt l a L) (omega (arith, o .some)) (o .most)
 
-pub three-next : (l : Lattice) → Limits (l .grid) → (L : ℕ) → coarserThree (threeAt l L) (mapsOf l) (target L) ≡ threeAt l (suc L)
+pub three-next : (l : Medium) → Limits (l .grid) → (L : ℕ) → coarserThree (threeAt l L) (mapsOf l) (target L) ≡ threeAt l (suc L)
 unfolding coarserThree threeAt mapsOf lineAt
 three-next l h L =
     λ i.
@@ -79,17 +79,17 @@ three-next l h L =
       z = packed (coarserEnds (acrossMap l 2) (target L) (line-ends l h 2 L i));
     }
 
-three-edges : (l : Lattice) (L : ℕ) → edgesOf (threeAt l L) ≡ edgesAt l L
+three-edges : (l : Medium) (L : ℕ) → edgesOf (threeAt l L) ≡ edgesAt l L
 unfolding edgesOf threeAt edgesAt cellsAt packed
 three-edges l L = refl
 
-three-same : (l : Lattice) (L : ℕ) → sameCells (threeAt l (suc L)) (threeAt l L) ≡ same l L
+three-same : (l : Medium) (L : ℕ) → sameCells (threeAt l (suc L)) (threeAt l L) ≡ same l L
 unfolding sameCells threeAt same cellsAt packed
 three-same l L = refl
 
 -- ---- the depth from a level on
 
-module _ (l : Lattice) (coarsest L : ℕ) (h : L < 12) where
+module _ (l : Medium) (coarsest L : ℕ) (h : L < 12) where
   depth-stop : stops l coarsest L ≡ true → depthFrom l coarsest (12 - L) L ≡ Depth.Levels (L + 1)
   unfolding depthFrom
   depth-stop e =
@@ -105,11 +105,11 @@ module _ (l : Lattice) (coarsest L : ℕ) (h : L < 12) where
 -- ---- the loop
 
 -- line q, on a level that the loop has reached
-unfoldable pub lineOn : Lattice → ℕ → Line
+unfoldable pub lineOn : Medium → ℕ → Line
 lineOn l q = packed (lineAt l (q % 3) (q / 3))
 
 -- the loop at level L: the level's lines, the lines of the levels before it, and the depth that is left to find
-pub record Stored (l : Lattice) (coarsest L : ℕ) (lines : List Line) (t : Three) : Type 0 where
+pub record Stored (l : Medium) (coarsest L : ℕ) (lines : List Line) (t : Three) : Type 0 where
   pub here : t ≡ threeAt l L
   pub filled : Filled (lineOn l) noLine noLine 36 (3 * L) lines
   pub rest : depthFrom l coarsest (12 - L) L ≡ depthOf l coarsest
@@ -119,18 +119,18 @@ abbrev pub withLevel : List Line → ℕ → Three → List Line
 withLevel lines L t = set (set (set lines (3 * L) (t .x)) (3 * L + 1) (t .y)) (3 * L + 2) (t .z)
 
 -- what is handed back: the depth and the lines of all levels
-abbrev pub Joined : Lattice → ℕ → Depth → List Line → Type 0
+abbrev pub Joined : Medium → ℕ → Depth → List Line → Type 0
 Joined l coarsest d lines =
     _≡_ {A = Lines} (record { depth = d; lines = lines }) (record { depth = depthOf l coarsest; lines = linesOf l coarsest })
 
-line-on : (l : Lattice) (q a L : ℕ) → q ≡ 3 * L + a → a < 3 → packed (lineAt l a L) ≡ lineOn l q
+line-on : (l : Medium) (q a L : ℕ) → q ≡ 3 * L + a → a < 3 → packed (lineAt l a L) ≡ lineOn l q
 unfolding lineOn
 line-on l q a L e h =
     let m : q % 3 ≡ a = omega arith in
     let d : q / 3 ≡ L = omega arith in
     rw (m, d)
 
-module _ {l : Lattice} {coarsest L : ℕ} {lines : List Line} {t : Three} (s : Stored l coarsest L lines t) (h : L < 12) where
+module _ {l : Medium} {coarsest L : ℕ} {lines : List Line} {t : Three} (s : Stored l coarsest L lines t) (h : L < 12) where
   with-level : Filled (lineOn l) noLine noLine 36 (3 * (L + 1)) (withLevel lines L t)
   unfolding threeAt
   with-level =
@@ -197,18 +197,18 @@ module _ {l : Lattice} {coarsest L : ℕ} {lines : List Line} {t : Three} (s : S
           rest = sym (depth-turn l coarsest L h (sym same-stops ∙ q)) ∙ s .rest;
         }
 
-pub stored-start : {l : Lattice} {coarsest : ℕ} {none : Line} {t : Three} → none ≡ noLine → t ≡ threeAt l 0 → Stored l coarsest 0 (replicate 36 none) t
+pub stored-start : {l : Medium} {coarsest : ℕ} {none : Line} {t : Three} → none ≡ noLine → t ≡ threeAt l 0 → Stored l coarsest 0 (replicate 36 none) t
 unfolding depthOf
 stored-start e p = record { here = p; filled = filled-first e; rest = refl }
 
-no-lines : (l : Lattice) (none : Line) (n : ℕ) → n ≡ 0 → none ≡ noLine → replicate 36 none ≡ tabulate (lineNo l n) 36 0
+no-lines : (l : Medium) (none : Line) (n : ℕ) → n ≡ 0 → none ≡ noLine → replicate 36 none ≡ tabulate (lineNo l n) 36 0
 unfolding lineNo
 no-lines l none n e p =
     is-tabulate (lineNo l n) 36 noLine (replicate 36 none) (length-replicate 36 none)
     (λ q b. getD-replicate 36 q none noLine b ∙ (p ∙ rw (le-ltb (q / 3) n (omega arith))))
 
 -- no level of the 12 is the last
-pub stored-end : {l : Lattice} {coarsest L : ℕ} {lines : List Line} {t : Three} {none : Line} → Stored l coarsest L lines t → L ≡ 12 → none ≡ noLine
+pub stored-end : {l : Medium} {coarsest L : ℕ} {lines : List Line} {t : Three} {none : Line} → Stored l coarsest L lines t → L ≡ 12 → none ≡ noLine
     → Joined l coarsest Depth.TooMany (replicate 36 none)
 unfolding depthFrom linesOf
 stored-end {l} {coarsest} {L} {lines} {t} {none} s e p =
@@ -218,12 +218,12 @@ stored-end {l} {coarsest} {L} {lines} {t} {none} s e p =
 
 -- ---- the call of a user
 
-pub lattice-limits : (v : Input) (xn xh yn yh zn zh : List Float) {l : Lattice} → l ≡ latticeOf v xn xh yn yh zn zh → Limits (v .grid) → Limits (l .grid)
+pub lattice-limits : (v : Lattice) (xn xh yn yh zn zh : List Float) {l : Medium} → l ≡ latticeOf v xn xh yn yh zn zh → Limits (v .grid) → Limits (l .grid)
 unfolding latticeOf
-lattice-limits v xn xh yn yh zn zh e h = subst (λ (k : Lattice). Limits (k .grid)) (sym e) h
+lattice-limits v xn xh yn yh zn zh e h = subst (λ (k : Medium). Limits (k .grid)) (sym e) h
 
 -- an answer c of the checks x that is not sound is handed on, with lines of no cells
-pub found-refused : {c x : Checked} {none : Line} (l : Lattice) (coarsest : ℕ) → c ≡ x → isSound c ≡ false → none ≡ noLine
+pub found-refused : {c x : Checked} {none : Line} (l : Medium) (coarsest : ℕ) → c ≡ x → isSound c ≡ false → none ≡ noLine
     → _≡_ {A = LevelLines} (record { answer = Answer.Refused c; lines = replicate 36 none }) (foundIf x l coarsest)
 unfolding noLines
 found-refused {c} {x} {none} l coarsest e r p =
@@ -240,10 +240,10 @@ abbrev level-lines : Lines → LevelLines
 level-lines g = record { answer = answerTo (g .depth); lines = g .lines }
 
 -- a sound answer leads to the lines of the lattice
-pub found-sound : {c x : Checked} {l k : Lattice} (coarsest : ℕ) (f : Lines) {a : Answer} → c ≡ x → isSound c ≡ true → k ≡ l
+pub found-sound : {c x : Checked} {l k : Medium} (coarsest : ℕ) (f : Lines) {a : Answer} → c ≡ x → isSound c ≡ true → k ≡ l
     → Joined k coarsest (f .depth) (f .lines) → a ≡ answerTo (f .depth) → _≡_ {A = LevelLines} (record { answer = a; lines = f .lines }) (foundIf x l coarsest)
 unfolding found
 found-sound {c} {x} {l} {k} coarsest f {a} p s e j q =
     (λ i. record { answer = q i; lines = f .lines })
     ∙ (ap (λ (g : Lines). level-lines g) j
-    ∙ (ap (λ (m : Lattice). found m coarsest) e ∙ ap (λ (y : Checked). foundIf y l coarsest) (sym (sound-is c s) ∙ p)))
+    ∙ (ap (λ (m : Medium). found m coarsest) e ∙ ap (λ (y : Checked). foundIf y l coarsest) (sym (sound-is c s) ∙ p)))

@@ -14,7 +14,7 @@ use Rattle.lattice.specs.Neighbours.{pastHigh, pastLow, shifted, arrived
 use Rattle.lattice.specs.declared.grid.Grid3d.{Grid3d}
 use Rattle.lattice.specs.declared.grid.Position.{Position}
 use Rattle.lattice.specs.declared.lattice.Edges.{Edges}
-use Rattle.lattice.specs.declared.lattice.Lattice.{Lattice}
+use Rattle.lattice.specs.Lattice.{Medium}
 use Rattle.lattice.specs.declared.neighbours.Arrival.{Arrival}
 use Rattle.lattice.specs.declared.neighbours.Arrival.the-variants.{To}
 use Rattle.lattice.proofs.GridLaws.{place-inside, moved-inside, shift-below}
@@ -38,7 +38,7 @@ module _ (e : Edges) (n m : ℕ) (up : Bool) where
   unfolding shifted
   shift-low u h = rw (u, eq-eqb m 0 h)
 
-pub neighbour-is : (l : Lattice) (p : Position) (a : ℕ) (up : Bool) {e : Edges} {n m : ℕ} {s : Arrival}
+pub neighbour-is : (l : Medium) (p : Position) (a : ℕ) (up : Bool) {e : Edges} {n m : ℕ} {s : Arrival}
     → e ≡ edgesOf l a
     → n ≡ nOf (l .grid) a
     → m ≡ placeOn p a
@@ -62,7 +62,7 @@ step-inside {g} {p} {k = k} {w = w} a e up f q r h t =
 
 -- ---- walls
 
-module _ (l : Lattice) (p : Position) (a m : ℕ) (place : m ≡ placeOn p a) where
+module _ (l : Medium) (p : Position) (a m : ℕ) (place : m ≡ placeOn p a) where
   pub wall-at : m ≡ 0 → isWall (edgesOf l a) ≡ onWall l p a
   unfolding onWall
   wall-at h = rw (← place, eq-eqb m 0 h)
@@ -71,7 +71,7 @@ module _ (l : Lattice) (p : Position) (a m : ℕ) (place : m ≡ placeOn p a) wh
   unfolding onWall
   wall-off h = rw (← place, ne-eqb m 0 h)
 
-pub wall-node : (l : Lattice) (q a : ℕ) {p : Position} {b : Bool} → p ≡ atOf (l .grid) q → b ≡ onWall l p a → b ≡ onWall l (atOf (l .grid) q) a
+pub wall-node : (l : Medium) (q a : ℕ) {p : Position} {b : Bool} → p ≡ atOf (l .grid) q → b ≡ onWall l p a → b ≡ onWall l (atOf (l .grid) q) a
 wall-node l q a e h = h ∙ ap (λ p. onWall l p a) e
 
 -- ---- a test of an axis other than the component, and one test after another

@@ -47,7 +47,7 @@ use Rattle.lattice.specs.Yee.{ePlace, hPlace, HalfStep, plus, minus, plu
 use Rattle.lattice.specs.declared.grid.Position.{Position}
 use Rattle.lattice.specs.declared.lattice.Edges.{Edges}
 use Rattle.lattice.specs.declared.lattice.Edges.the-variants.{Pml, Bloch}
-use Rattle.lattice.specs.declared.lattice.Lattice.{Lattice}
+use Rattle.lattice.specs.Lattice.{Medium}
 use Rattle.lattice.specs.declared.neighbours.Arrival.{Arrival}
 use Rattle.lattice.specs.declared.neighbours.Arrival.the-variants.{To, Beyond}
 use Rattle.lattice.proofs.GridLaws.{axis-each, place-inside, moved-inside, with-inside, shift-below, at-inside}
@@ -115,12 +115,12 @@ position-is e h = λ n. record { component = e n; i = h 0 (omega arith) n; j = h
 
 -- ---- half-steps on one axis: where a step ends, or where it starts
 
-data Reach (l : Lattice) (a : ℕ) (up : Bool) (m k : ℕ) : Type 0 where
+data Reach (l : Medium) (a : ℕ) (up : Bool) (m k : ℕ) : Type 0 where
   here : m ≡ k → Reach l a up m k
   there : (w : C64) → shifted (edgesOf l a) (nOf (l .grid) a) m up ≡ To k w → Reach l a up m k
 
 -- from a face's place up to an edge's, or from an edge's down to a face's
-abbrev Half : Lattice → ℕ → Bool → ℕ → ℕ → Type 0
+abbrev Half : Medium → ℕ → Bool → ℕ → ℕ → Type 0
 Half l a true m k = HalfStep l a (2 * m + 1) (2 * k)
 Half l a false m k = HalfStep l a (2 * k + 1) (2 * m)
 
@@ -128,7 +128,7 @@ bloch : (e : Edges) → isWall e ≡ false → (re : Float) × (im : Float) × (
 bloch Pml h = let z : _≡_ {A = ℕ} 0 1 = cc in absurd (omega arith)
 bloch (Bloch re im) h = (re, im, refl)
 
-module _ (l : Lattice) (a m k : ℕ) (mine : m < nOf (l .grid) a) where
+module _ (l : Medium) (a m k : ℕ) (mine : m < nOf (l .grid) a) where
   step-half : (up : Bool) (w : C64) → shifted (edgesOf l a) (nOf (l .grid) a) m up ≡ To k w → Half l a up m k
   unfolding shifted
   step-half true w q = go (ltb (m + 1) (nOf (l .grid) a)) (edgesOf l a) refl refl q
@@ -216,7 +216,7 @@ abbrev Level : ℕ → Position → Position → Type 0
 Level t p q = (a : ℕ) → a < 3 → (a ≡ t → ⊥) → placeOn p a ≡ placeOn q a
 
 -- a face and an edge, by their places
-module _ (l : Lattice) (p q : Position) (t : ℕ) (x : Axes (p .component) (q .component) t) where
+module _ (l : Medium) (p q : Position) (t : ℕ) (x : Axes (p .component) (q .component) t) where
   around-level : Around l p q → Level t p q
   around-level r a h n = go (ℕ-discrete a (p .component))
     where
@@ -250,15 +250,15 @@ axes-turn : {c f t : ℕ} → Axes c f t → Axes f c t
 axes-turn x = omega arith
 
 -- p is a face and q an edge around it, or the other way round
-abbrev Round : Lattice → Bool → Position → Position → Type 0
+abbrev Round : Medium → Bool → Position → Position → Type 0
 Round l true p q = Around l p q
 Round l false p q = Around l q p
 
-round-differ : (l : Lattice) (p q : Position) (up : Bool) → Round l up p q → p .component ≡ q .component → ⊥
+round-differ : (l : Medium) (p q : Position) (up : Bool) → Round l up p q → p .component ≡ q .component → ⊥
 round-differ l p q true r e = r .differ e
 round-differ l p q false r e = r .differ (sym e)
 
-module _ (l : Lattice) (p q : Position) (t : ℕ) (x : Axes (p .component) (q .component) t) where
+module _ (l : Medium) (p q : Position) (t : ℕ) (x : Axes (p .component) (q .component) t) where
   round-level : (up : Bool) → Round l up p q → Level t p q
   round-level true r = around-level l p q t x r
   round-level false r = λ a h n. sym (around-level l q p t (axes-turn x) r a h n)
@@ -285,10 +285,10 @@ append-in s t c = (
 )
 
 -- the columns of field f's difference along axis t: those of the places that a step reaches, its start among them
-abbrev Hit : Lattice → Position → ℕ → ℕ → Bool → ℕ → Type 0
+abbrev Hit : Medium → Position → ℕ → ℕ → Bool → ℕ → Type 0
 Hit l p t f up c = (k : ℕ) × Reach l t up (placeOn p t) k × (indexOf (l .grid) (movedTo (withComponent p f) t k) ≡ c)
 
-module _ (l : Lattice) (p : Position) (t f c : ℕ) (up : Bool) where
+module _ (l : Medium) (p : Position) (t f c : ℕ) (up : Bool) where
   here-hit : (w : C64) → In c (columnsOf (termHere l p f w)) → Hit l p t f up c
   unfolding termHere columnsOf placeOn withComponent
   here-hit w h =
@@ -321,14 +321,14 @@ module _ (l : Lattice) (p : Position) (t f c : ℕ) (up : Bool) where
           ∙ ap (indexOf (l .grid)) (moved-here (withComponent p f) t)))
       go k (there u d) e = inr (rw d (In-head (sym e)))
 
-ahead-in : (l : Lattice) (p : Position) (t f c : ℕ) (s : Float) → In c (columnsOf (ahead l p t f s)) ↔ Hit l p t f true c
+ahead-in : (l : Medium) (p : Position) (t f c : ℕ) (s : Float) → In c (columnsOf (ahead l p t f s)) ↔ Hit l p t f true c
 unfolding ahead
 ahead-in l p t f c s = (
   λ h. ⊎-elim (to-hit l p t f c true _) (here-hit l p t f c true _) (append-in _ _ c .0 h),
   λ h. append-in _ _ c .1 (⊎-swap (hit-in l p t f c true _ _ h)),
 )
 
-behind-in : (l : Lattice) (p : Position) (t f c : ℕ) (s : Float) → In c (columnsOf (behind l p t f s)) ↔ Hit l p t f false c
+behind-in : (l : Medium) (p : Position) (t f c : ℕ) (s : Float) → In c (columnsOf (behind l p t f s)) ↔ Hit l p t f false c
 unfolding behind
 behind-in l p t f c s = (
   λ h. ⊎-elim (here-hit l p t f c false _) (to-hit l p t f c false _) (append-in _ _ c .0 h),
@@ -337,10 +337,10 @@ behind-in l p t f c s = (
 
 -- ---- what a difference reads lies around, and the other way round
 
-abbrev Found : Lattice → Bool → Position → ℕ → Type 0
+abbrev Found : Medium → Bool → Position → ℕ → Type 0
 Found l up p c = (q : Position) × Inside (l .grid) q × (indexOf (l .grid) q ≡ c) × Round l up p q
 
-module _ (l : Lattice) (p : Position) (inside : Inside (l .grid) p) (up : Bool) (c : ℕ) where
+module _ (l : Medium) (p : Position) (inside : Inside (l .grid) p) (up : Bool) (c : ℕ) where
   hit-found : (t f : ℕ) → Axes (p .component) f t → Hit l p t f up c → Found l up p c
   unfolding placeOn withComponent
   hit-found t f x (k, r, e) =
@@ -417,7 +417,7 @@ module _ (l : Lattice) (p : Position) (inside : Inside (l .grid) p) (up : Bool) 
 -- ---- the theorems
 
 -- Yee: the curl of E at face r has a column for exactly the edges around the face
-pub yee-face : (l : Lattice) (r c : ℕ)
+pub yee-face : (l : Medium) (r c : ℕ)
     → Limits (l .grid)
     → r < unknownsOf (l .grid)
     → (In c (columnsOf (curlE l r)) ↔ ((q : Position) × Inside (l .grid) q × (indexOf (l .grid) q ≡ c) × Around l (atOf (l .grid) r) q))
@@ -427,7 +427,7 @@ yee-face l r c h f =
     differences l p (at-inside h r f) true c _ _ (ahead-in l p _ _ c oneF) (ahead-in l p _ _ c minusOneF)
 
 -- Yee: the curl of H at edge r has a column for exactly the faces around the edge
-pub yee-edge : (l : Lattice) (r c : ℕ)
+pub yee-edge : (l : Medium) (r c : ℕ)
     → Limits (l .grid)
     → r < unknownsOf (l .grid)
     → (In c (columnsOf (curlH l r)) ↔ ((q : Position) × Inside (l .grid) q × (indexOf (l .grid) q ≡ c) × Around l q (atOf (l .grid) r)))

@@ -14,7 +14,7 @@ use Rattle.lattice.specs.Grid.{unknownsOf}
 use Rattle.lattice.specs.declared.grid.Grid3d.{Grid3d}
 use Rattle.lattice.specs.declared.lattice.Edges.{Edges}
 use Rattle.lattice.specs.declared.lattice.Edges.the-variants.{Pml, Bloch}
-use Rattle.lattice.specs.declared.lattice.Input.{Input}
+use Rattle.lattice.specs.declared.lattice.Lattice.{Lattice}
 use Rattle.lattice.specs.declared.check.Checked.{Checked}
 use Rattle.lattice.specs.declared.check.Checked.the-variants.{Sound, Cells, Scalar, Length, Entry}
 
@@ -63,7 +63,7 @@ abbrev pub badPhase : Edges → Bool
 badPhase Pml = false
 badPhase (Bloch re im) = badNumber (record { re = re; im = im })
 
-unfoldable pub checkScalars : Input → Checked
+unfoldable pub checkScalars : Lattice → Checked
 checkScalars v =
     cond (badLength (v .grid .dx)) (Scalar 0)
     (cond (badLength (v .grid .dy)) (Scalar 1)
@@ -109,14 +109,14 @@ checkEntries position (v ∷ vs) =
 
 -- ---- in the order of the table
 
-unfoldable pub checkAll : Input → List Given → Checked
+unfoldable pub checkAll : Lattice → List Given → Checked
 checkAll v vs = andThen (checkGrid (v .grid)) (andThen (checkScalars v) (andThen (checkLengths 0 vs) (checkEntries 0 vs)))
 
 -- the setup's input, and the same without its permittivities, as a change has it
-unfoldable pub checkOf : Input → List Float → List Float → List Float → List Float → List Float → List Float → List Float → Checked
+unfoldable pub checkOf : Lattice → List Float → List Float → List Float → List Float → List Float → List Float → List Float → Checked
 checkOf v xn xh yn yh zn zh eps = checkAll v (stretches (v .grid) xn xh yn yh zn zh ++ (given (unknownsOf (v .grid)) eps ∷ []))
 
-unfoldable pub checkStretches : Input → List Float → List Float → List Float → List Float → List Float → List Float → Checked
+unfoldable pub checkStretches : Lattice → List Float → List Float → List Float → List Float → List Float → List Float → Checked
 checkStretches v xn xh yn yh zn zh = checkAll v (stretches (v .grid) xn xh yn yh zn zh)
 
 abbrev pub isSound : Checked → Bool

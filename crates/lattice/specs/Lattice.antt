@@ -1,6 +1,6 @@
 -- The lattice record (docs/SPECIFICATION.md, 2): the input with the stretches, at the nodes of each axis and halfway behind each node.
 -- Assumes nothing.
-use Prim.Native.Nat.{ℕ, zero, suc, _+_, _*_, _/_, _%_}
+use Prim.Native.Nat.{ℕ, zero, suc, _+_, _*_, _/_, _%_, _<_, _≤_}
 use mathlib.Core.Path.{_≡_}
 use mathlib.Core.Bool.{Bool, true, false, cond}
 use mathlib.Core.List.{List, [], _∷_}
@@ -9,15 +9,51 @@ use lib.ListN.{length, getD}
 use lib.Ieee.{Float}
 use Rattle.numbers.specs.declared.C64.{C64}
 use Rattle.numbers.specs.Complex.{zeroNumber, noNumber}
-use Rattle.numbers.specs.Places.{numberAt}
+use Rattle.numbers.specs.Places.{places, numberAt}
 use Rattle.lattice.specs.Grid.{axis3, nOf}
 use Rattle.lattice.specs.declared.grid.Grid3d.{Grid3d}
 use Rattle.lattice.specs.declared.lattice.Edges.{Edges}
 use Rattle.lattice.specs.declared.lattice.Edges.the-variants.{Pml, Bloch}
-use Rattle.lattice.specs.declared.lattice.Input.{Input}
 use Rattle.lattice.specs.declared.lattice.Lattice.{Lattice}
 
-unfoldable pub edgesOf : Lattice → ℕ → Edges
+-- a lattice with its stretches
+pub record Medium : Type 0 where
+  pub grid : Grid3d
+  pub x : Edges
+  pub y : Edges
+  pub z : Edges
+  pub k0 : Float
+  pub shift : Float
+  pub nodes : List C64
+  pub halves : List C64
+
+-- f k, f (k + 1), .., n of them
+unfoldable pub tabulate : {A : Type 0} → (ℕ → A) → ℕ → ℕ → List A
+tabulate f zero k = []
+tabulate f (suc n) k = f k ∷ tabulate f n (suc k)
+
+-- number k of the list of stretches: none past its end
+unfoldable pub stretchNo : List Float → ℕ → C64
+stretchNo st k = cond (ltb k (length st / 2)) (numberAt st k) noNumber
+
+abbrev pub halfNo : List Float → ℕ → C64
+halfNo st k = stretchNo st (192 + k)
+
+-- the lattice record with a list of stretches: 192 numbers for the nodes, 192 for halfway behind them
+abbrev pub medium : Lattice → List Float → Medium
+medium l st =
+    record {
+      grid = l .grid;
+      x = l .x;
+      y = l .y;
+      z = l .z;
+      k0 = l .k0;
+      shift = l .shift;
+      nodes = tabulate (stretchNo st) 192 0;
+      halves = tabulate (halfNo st) 192 0;
+    }
+
+unfoldable pub edgesOf : Medium → ℕ → Edges
 edgesOf l a = axis3 a (l .x) (l .y) (l .z)
 
 abbrev pub isWall : Edges → Bool
@@ -25,24 +61,19 @@ isWall Pml = true
 isWall (Bloch re im) = false
 
 -- the stretch at node m of axis a, and halfway behind it
-unfoldable pub nodesAt : Lattice → ℕ → ℕ → C64
+unfoldable pub nodesAt : Medium → ℕ → ℕ → C64
 nodesAt l a m = getD (l .nodes) (64 * a + m) noNumber
 
-unfoldable pub halvesAt : Lattice → ℕ → ℕ → C64
+unfoldable pub halvesAt : Medium → ℕ → ℕ → C64
 halvesAt l a m = getD (l .halves) (64 * a + m) noNumber
 
--- ---- the record from the input and its lists
-
--- f k, f (k + 1), .., n of them
-unfoldable pub tabulate : {A : Type 0} → (ℕ → A) → ℕ → ℕ → List A
-tabulate f zero k = []
-tabulate f (suc n) k = f k ∷ tabulate f n (suc k)
+-- ---- from the six lists
 
 -- place q of a record's list: number q % 64 of the list of axis q / 64, and zero beyond that axis's cells
 unfoldable pub stretchAt : Grid3d → List Float → List Float → List Float → ℕ → C64
 stretchAt g xs ys zs q = cond (ltb (q % 64) (nOf g (q / 64))) (numberAt (axis3 (q / 64) xs ys zs) (q % 64)) zeroNumber
 
-unfoldable pub latticeOf : Input → List Float → List Float → List Float → List Float → List Float → List Float → Lattice
+unfoldable pub latticeOf : Lattice → List Float → List Float → List Float → List Float → List Float → List Float → Medium
 latticeOf v xn xh yn yh zn zh =
     record {
       grid = v .grid;
@@ -60,3 +91,10 @@ pub record Lengths (g : Grid3d) (xs ys zs : List Float) : Type 0 where
   pub x-long : length xs ≡ 2 * g .nx
   pub y-long : length ys ≡ 2 * g .ny
   pub z-long : length zs ≡ 2 * g .nz
+
+-- n numbers f 0, f 1, .. laid over a list from number `from` on
+pub record LaidStretches (f : ℕ → C64) (from n : ℕ) (xs ys : List Float) : Type 0 where
+  pub long : length ys ≡ length xs
+  pub inside : (k : ℕ) → k < n → from + k < places xs → numberAt ys (from + k) ≡ f k
+  pub before : (k : ℕ) → k < from → numberAt ys k ≡ numberAt xs k
+  pub behind : (k : ℕ) → from + n ≤ k → numberAt ys k ≡ numberAt xs k

@@ -13,9 +13,9 @@ use Rattle.lattice.specs.Lattice.{tabulate, latticeOf}
 use Rattle.lattice.specs.Stretched.{acrossMap}
 use Rattle.lattice.specs.Line.{packed, endsOf, finestEnds, coarserEnds}
 use Rattle.lattice.specs.Check.{Verdict, accepted, refused, verdictOf, checkStretches}
-use Rattle.lattice.specs.declared.lattice.Lattice.{Lattice}
+use Rattle.lattice.specs.Lattice.{Medium}
 use Rattle.lattice.specs.declared.line.Line.{Line}
-use Rattle.lattice.specs.declared.lattice.Input.{Input}
+use Rattle.lattice.specs.declared.lattice.Lattice.{Lattice}
 use Rattle.lattice.specs.declared.check.Checked.{Checked}
 use Rattle.lattice.specs.declared.check.Checked.the-variants.{Sound, Cells, Scalar, Length, Entry}
 use Rattle.lattice.specs.declared.levels.Depth.{Depth}
@@ -33,33 +33,33 @@ unfoldable pub target : ℕ → Float
 target L = mulF (ofInt binary64 (pos (2 ^ (L + 1)))) boundF
 
 -- axis a on level L: the finest line, joined level by level by the axis's map across
-unfoldable pub lineAt : Lattice → ℕ → ℕ → List ℕ
+unfoldable pub lineAt : Medium → ℕ → ℕ → List ℕ
 lineAt l a zero = finestEnds (nOf (l .grid) a)
 lineAt l a (suc L) = coarserEnds (acrossMap l a) (target L) (lineAt l a L)
 
-unfoldable pub cellsAt : Lattice → ℕ → ℕ → ℕ
+unfoldable pub cellsAt : Medium → ℕ → ℕ → ℕ
 cellsAt l a L = length (lineAt l a L) - 1
 
-unfoldable pub edgesAt : Lattice → ℕ → ℕ
+unfoldable pub edgesAt : Medium → ℕ → ℕ
 edgesAt l L = 3 * (cellsAt l 0 L * cellsAt l 1 L * cellsAt l 2 L)
 
 -- no axis changes from level L to the next
-unfoldable pub same : Lattice → ℕ → Bool
+unfoldable pub same : Medium → ℕ → Bool
 same l L =
     eqb (cellsAt l 0 (suc L)) (cellsAt l 0 L)
     && (eqb (cellsAt l 1 (suc L)) (cellsAt l 1 L) && eqb (cellsAt l 2 (suc L)) (cellsAt l 2 L))
 
 -- level L is the last: its edges are at most `coarsest`, or no axis changes
-unfoldable pub stops : Lattice → ℕ → ℕ → Bool
+unfoldable pub stops : Medium → ℕ → ℕ → Bool
 stops l coarsest L = leb (edgesAt l L) coarsest || same l L
 
 -- the level count from level L on, where n more levels are allowed
-unfoldable pub depthFrom : Lattice → ℕ → ℕ → ℕ → Depth
+unfoldable pub depthFrom : Medium → ℕ → ℕ → ℕ → Depth
 depthFrom l coarsest zero L = Depth.TooMany
 depthFrom l coarsest (suc n) L = cond (stops l coarsest L) (Depth.Levels (suc L)) (depthFrom l coarsest n (suc L))
 
 -- at most 12 levels
-unfoldable pub depthOf : Lattice → ℕ → Depth
+unfoldable pub depthOf : Medium → ℕ → Depth
 depthOf l coarsest = depthFrom l coarsest 12 0
 
 -- ---- the lines of all levels, in the order of levels and, in a level, of axes
@@ -68,22 +68,22 @@ unfoldable pub noLine : Line
 noLine = record { cells = 0; ends = replicate 65 0 }
 
 -- line q is that of axis q % 3 on level q / 3, where the lattice has that level
-unfoldable pub lineNo : Lattice → ℕ → ℕ → Line
+unfoldable pub lineNo : Medium → ℕ → ℕ → Line
 lineNo l count q = cond (ltb (q / 3) count) (packed (lineAt l (q % 3) (q / 3))) noLine
 
 abbrev pub countOf : Depth → ℕ
 countOf (Depth.Levels n) = n
 countOf Depth.TooMany = 0
 
-unfoldable pub linesOf : Lattice → ℕ → List Line
+unfoldable pub linesOf : Medium → ℕ → List Line
 linesOf l coarsest = tabulate (lineNo l (countOf (depthOf l coarsest))) 36 0
 
 -- ---- a level as the code holds it
 
-unfoldable pub mapsOf : Lattice → Maps
+unfoldable pub mapsOf : Medium → Maps
 mapsOf l = record { x = acrossMap l 0; y = acrossMap l 1; z = acrossMap l 2 }
 
-unfoldable pub threeAt : Lattice → ℕ → Three
+unfoldable pub threeAt : Medium → ℕ → Three
 threeAt l L = record { x = packed (lineAt l 0 L); y = packed (lineAt l 1 L); z = packed (lineAt l 2 L) }
 
 unfoldable pub coarserThree : Three → Maps → Float → Three
@@ -115,16 +115,16 @@ unfoldable pub noLines : List Line
 noLines = replicate 36 noLine
 
 -- the lines of a lattice whose input is sound, and else the refusal and lines of no cells
-unfoldable pub found : Lattice → ℕ → LevelLines
+unfoldable pub found : Medium → ℕ → LevelLines
 found l coarsest = record { answer = answerTo (depthOf l coarsest); lines = linesOf l coarsest }
 
-abbrev pub foundIf : Checked → Lattice → ℕ → LevelLines
+abbrev pub foundIf : Checked → Medium → ℕ → LevelLines
 foundIf Sound l coarsest = found l coarsest
 foundIf (Cells place) l coarsest = record { answer = Answer.Refused (Cells place); lines = noLines }
 foundIf (Scalar place) l coarsest = record { answer = Answer.Refused (Scalar place); lines = noLines }
 foundIf (Length place) l coarsest = record { answer = Answer.Refused (Length place); lines = noLines }
 foundIf (Entry place) l coarsest = record { answer = Answer.Refused (Entry place); lines = noLines }
 
-unfoldable pub levelLinesOf : Input → List Float → List Float → List Float → List Float → List Float → List Float → ℕ → LevelLines
+unfoldable pub levelLinesOf : Lattice → List Float → List Float → List Float → List Float → List Float → List Float → ℕ → LevelLines
 levelLinesOf v xn xh yn yh zn zh coarsest =
     foundIf (checkStretches v xn xh yn yh zn zh) (latticeOf v xn xh yn yh zn zh) coarsest

@@ -10,7 +10,7 @@ use Rattle.lattice.specs.Lattice.{edgesOf, isWall}
 use Rattle.lattice.specs.declared.grid.Position.{Position}
 use Rattle.lattice.specs.declared.lattice.Edges.{Edges}
 use Rattle.lattice.specs.declared.lattice.Edges.the-variants.{Pml, Bloch}
-use Rattle.lattice.specs.declared.lattice.Lattice.{Lattice}
+use Rattle.lattice.specs.Lattice.{Medium}
 use Rattle.lattice.specs.declared.neighbours.Arrival.{Arrival}
 use Rattle.lattice.specs.declared.neighbours.Arrival.the-variants.{To, Beyond}
 
@@ -32,27 +32,27 @@ shifted e n m up =
     (cond (eqb m 0) (pastLow e n) (To (m - 1) oneNumber))
 
 -- the same of a position: the number of the neighbour along axis a, and the phase there
-abbrev pub arrived : Lattice → Position → ℕ → Arrival → Arrival
+abbrev pub arrived : Medium → Position → ℕ → Arrival → Arrival
 arrived l p a Beyond = Beyond
 arrived l p a (To m phase) = To (indexOf (l .grid) (movedTo p a m)) phase
 
-unfoldable pub neighbourOf : Lattice → Position → ℕ → Bool → Arrival
+unfoldable pub neighbourOf : Medium → Position → ℕ → Bool → Arrival
 neighbourOf l p a up = arrived l p a (shifted (edgesOf l a) (nOf (l .grid) a) (placeOn p a) up)
 
 -- place 0 of a wall axis
-unfoldable pub onWall : Lattice → Position → ℕ → Bool
+unfoldable pub onWall : Medium → Position → ℕ → Bool
 onWall l p a = eqb (placeOn p a) 0 && isWall (edgesOf l a)
 
 -- an edge is fixed if, on a wall axis other than its own, its place is 0
-unfoldable pub fixedAt : Lattice → Position → Bool
+unfoldable pub fixedAt : Medium → Position → Bool
 fixedAt l p =
     (not (eqb 0 (p .component)) && onWall l p 0)
     || ((not (eqb 1 (p .component)) && onWall l p 1)
     || (not (eqb 2 (p .component)) && onWall l p 2))
 
-unfoldable pub isFixed : Lattice → ℕ → Bool
+unfoldable pub isFixed : Medium → ℕ → Bool
 isFixed l r = fixedAt l (atOf (l .grid) r)
 
 -- a node is fixed if, on any wall axis, its place is 0; nodes have the numbers of component 0
-unfoldable pub isNodeFixed : Lattice → ℕ → Bool
+unfoldable pub isNodeFixed : Medium → ℕ → Bool
 isNodeFixed l q = onWall l (atOf (l .grid) q) 0 || (onWall l (atOf (l .grid) q) 1 || onWall l (atOf (l .grid) q) 2)

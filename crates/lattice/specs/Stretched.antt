@@ -10,7 +10,7 @@ use Rattle.numbers.specs.declared.C64.{C64}
 use Rattle.numbers.specs.Complex.{zeroNumber, sum, realTimes}
 use Rattle.lattice.specs.Grid.{nOf}
 use Rattle.lattice.specs.Lattice.{nodesAt, halvesAt, tabulate}
-use Rattle.lattice.specs.declared.lattice.Lattice.{Lattice}
+use Rattle.lattice.specs.Lattice.{Medium}
 use Rattle.lattice.specs.declared.stretched.Stretched.{Stretched}
 
 -- 0.5
@@ -23,10 +23,10 @@ mapAt s zero = zeroNumber
 mapAt s (suc p) = sum (mapAt s p) (realTimes halfF (s p))
 
 -- the stretch behind half-step p: that of the cell, or that of the nearest node, the last one at the far end
-unfoldable pub acrossStretch : Lattice → ℕ → ℕ → C64
+unfoldable pub acrossStretch : Medium → ℕ → ℕ → C64
 acrossStretch l a p = halvesAt l a (p / 2)
 
-unfoldable pub alongStretch : Lattice → ℕ → ℕ → C64
+unfoldable pub alongStretch : Medium → ℕ → ℕ → C64
 alongStretch l a p = nodesAt l a (min ((p + 1) / 2) (nOf (l .grid) a - 1))
 
 -- an axis of n cells has the map at its half-steps 0 to 2 n; the record's list goes on with zeros up to 129 numbers
@@ -36,11 +36,11 @@ mapEntry s n p = cond (leb p (2 * n)) (mapAt s p) zeroNumber
 unfoldable pub mapList : (ℕ → C64) → ℕ → List C64
 mapList s n = tabulate (mapEntry s n) 129 0
 
-unfoldable pub acrossMap : Lattice → ℕ → List C64
+unfoldable pub acrossMap : Medium → ℕ → List C64
 acrossMap l a = mapList (acrossStretch l a) (nOf (l .grid) a)
 
-unfoldable pub alongMap : Lattice → ℕ → List C64
+unfoldable pub alongMap : Medium → ℕ → List C64
 alongMap l a = mapList (alongStretch l a) (nOf (l .grid) a)
 
-unfoldable pub stretchedOf : Lattice → ℕ → Stretched
+unfoldable pub stretchedOf : Medium → ℕ → Stretched
 stretchedOf l a = record { across = acrossMap l a; along = alongMap l a }

@@ -10,7 +10,7 @@ ghost use Rattle.lattice.specs.Check.{badCells, checkGrid, badLength, ba
 use crate::grid;
 use crate::grid::Grid3d;
 use crate::lattice::Edges;
-use crate::lattice::Input;
+use crate::lattice::Lattice;
 use numbers::C64;
 
 // What the checks say: sound, or what is refused and where (docs/SPECIFICATION.md, 5, has the numbers).
@@ -81,7 +81,7 @@ fn bad_phase(e: Edges) -> bool
 }
 
 // Refusal 2.
-pub fn check_scalars(v: Input) -> Checked
+pub fn check_scalars(v: Lattice) -> Checked
     ensures { λ r. ⌜ r ≡ checkScalars v ⌝ }
 {
     let g = v.grid;
@@ -162,7 +162,7 @@ fn axis_entries(position: usize, n: usize, nodes: &[f64], halves: &[f64]) -> Che
 }
 
 // Refusals 1 and 2.
-fn check_lattice(v: Input) -> Checked
+fn check_lattice(v: Lattice) -> Checked
     ensures { λ r. ⌜ r ≡ andThen (checkGrid (v .grid)) (checkScalars v) ⌝ }
 {
     let c = check_grid(v.grid);
@@ -224,7 +224,7 @@ fn stretch_entries(
 
 // The setup's input without its permittivities, as a change has it: refusals 1 to 4.
 pub fn check_stretches(
-    v: Input,
+    v: Lattice,
     xn: &[f64],
     xh: &[f64],
     yn: &[f64],
@@ -272,7 +272,7 @@ fn eps_entries(g: Grid3d, eps: &[f64]) -> Checked
 
 // The setup's input: refusals 1 to 4.
 pub fn check(
-    v: Input,
+    v: Lattice,
     xn: &[f64],
     xh: &[f64],
     yn: &[f64],

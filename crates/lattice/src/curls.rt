@@ -3,6 +3,7 @@
 
 ghost use mathlib.Core.Path.{_≡_};
 ghost use Prim.Native.Nat.{_<_};
+ghost use Rattle.lattice.specs.Lattice.{medium};
 ghost use Rattle.lattice.specs.Grid.{unknownsOf, cellsOf, Limits, Inside};
 ghost use Rattle.lattice.specs.Terms.{Wrote};
 ghost use Rattle.lattice.specs.Curls.{halfWeight, nodeWeight, termTo, termHere, ahead as aheadOf, behind as behindOf, curlE, curlH, divergenceOf, freeNodes, gradientOf};
@@ -16,24 +17,24 @@ use crate::terms;
 use numbers::C64;
 
 // The weight of a difference along an axis, across a cell.
-fn half_weight(l: Lattice, p: Position, axis: usize, sign: f64) -> C64
+fn half_weight(l: Lattice, st: &[f64], p: Position, axis: usize, sign: f64) -> C64
     requires { ⌜ Limits (l .grid) ⌝ }
     requires { ⌜ Inside (l .grid) p ⌝ }
     requires { ⌜ axis < 3 ⌝ }
-    ensures { λ r. ⌜ r ≡ halfWeight l p axis sign ⌝ }
+    ensures { λ r. ⌜ r ≡ halfWeight (medium l (now (st .entry))) p axis sign ⌝ }
 {
-    let s = lattice::half(l, axis, grid::place_on(p, axis));
+    let s = lattice::half(l, st, axis, grid::place_on(p, axis));
     numbers::real_over(sign, numbers::real_times(grid::step(l.grid, axis), s))
 }
 
 // The weight of a difference along an axis, across a node's dual cell.
-fn node_weight(l: Lattice, p: Position, axis: usize, sign: f64) -> C64
+fn node_weight(l: Lattice, st: &[f64], p: Position, axis: usize, sign: f64) -> C64
     requires { ⌜ Limits (l .grid) ⌝ }
     requires { ⌜ Inside (l .grid) p ⌝ }
     requires { ⌜ axis < 3 ⌝ }
-    ensures { λ r. ⌜ r ≡ nodeWeight l p axis sign ⌝ }
+    ensures { λ r. ⌜ r ≡ nodeWeight (medium l (now (st .entry))) p axis sign ⌝ }
 {
-    let s = lattice::node(l, axis, grid::place_on(p, axis));
+    let s = lattice::node(l, st, axis, grid::place_on(p, axis));
     numbers::real_over(sign, numbers::real_times(grid::step(l.grid, axis), s))
 }
 
@@ -57,6 +58,7 @@ fn push_to(to: Arrival, w: C64, k: usize, columns: &mut [usize], values: &mut [f
 // The term of a position of a component at place k.
 fn push_here(
     l: Lattice,
+    st: &[f64],
     p: Position,
     component: usize,
     w: C64,
@@ -68,7 +70,7 @@ fn push_here(
     requires { ⌜ Inside (l .grid) p ⌝ }
     requires { ⌜ component < 3 ⌝ }
     requires { ⌜ k < 64 ⌝ }
-    ensures { λ r. ⌜ Wrote (now (columns .entry)) (now (values .entry)) k (termHere l p component w) (now (columns .exit)) (now (values .exit)) r ⌝ }
+    ensures { λ r. ⌜ Wrote (now (columns .entry)) (now (values .entry)) k (termHere (medium l (now (st .entry))) p component w) (now (columns .exit)) (now (values .exit)) r ⌝ }
 {
     let here = grid::index(l.grid, grid::with_component(p, component));
     terms::push(columns, values, k, here, w)
@@ -77,6 +79,7 @@ fn push_here(
 // The difference of a field along an axis at a face: ahead, then here.
 fn ahead(
     l: Lattice,
+    st: &[f64],
     p: Position,
     along: usize,
     field: usize,
@@ -90,17 +93,18 @@ fn ahead(
     requires { ⌜ along < 3 ⌝ }
     requires { ⌜ field < 3 ⌝ }
     requires { ⌜ k < 60 ⌝ }
-    ensures { λ r. ⌜ Wrote (now (columns .entry)) (now (values .entry)) k (aheadOf l p along field sign) (now (columns .exit)) (now (values .exit)) r ⌝ }
+    ensures { λ r. ⌜ Wrote (now (columns .entry)) (now (values .entry)) k (aheadOf (medium l (now (st .entry))) p along field sign) (now (columns .exit)) (now (values .exit)) r ⌝ }
 {
-    let w = half_weight(l, p, along, sign);
-    let to = neighbours::neighbour(l, grid::with_component(p, field), along, true);
+    let w = half_weight(l, st, p, along, sign);
+    let to = neighbours::neighbour(l, st, grid::with_component(p, field), along, true);
     let k1 = push_to(to, w, k, columns, values);
-    push_here(l, p, field, numbers::neg(w), k1, columns, values)
+    push_here(l, st, p, field, numbers::neg(w), k1, columns, values)
 }
 
 // The difference of a field along an axis at an edge or a node: here, then behind.
 fn behind(
     l: Lattice,
+    st: &[f64],
     p: Position,
     along: usize,
     field: usize,
@@ -114,55 +118,62 @@ fn behind(
     requires { ⌜ along < 3 ⌝ }
     requires { ⌜ field < 3 ⌝ }
     requires { ⌜ k < 60 ⌝ }
-    ensures { λ r. ⌜ Wrote (now (columns .entry)) (now (values .entry)) k (behindOf l p along field sign) (now (columns .exit)) (now (values .exit)) r ⌝ }
+    ensures { λ r. ⌜ Wrote (now (columns .entry)) (now (values .entry)) k (behindOf (medium l (now (st .entry))) p along field sign) (now (columns .exit)) (now (values .exit)) r ⌝ }
 {
-    let w = node_weight(l, p, along, sign);
-    let k1 = push_here(l, p, field, w, k, columns, values);
-    let to = neighbours::neighbour(l, grid::with_component(p, field), along, false);
+    let w = node_weight(l, st, p, along, sign);
+    let k1 = push_here(l, st, p, field, w, k, columns, values);
+    let to = neighbours::neighbour(l, st, grid::with_component(p, field), along, false);
     push_to(to, numbers::neg(w), k1, columns, values)
 }
 
 // Curl E at face r: the edges that it takes and their coefficients, fixed ones included.
-pub fn curl_e(l: Lattice, r: usize, columns: &mut [usize], values: &mut [f64]) -> usize
+pub fn curl_e(l: Lattice, st: &[f64], r: usize, columns: &mut [usize], values: &mut [f64]) -> usize
     requires { ⌜ Limits (l .grid) ⌝ }
     requires { ⌜ r < unknownsOf (l .grid) ⌝ }
-    ensures { λ n. ⌜ Wrote (now (columns .entry)) (now (values .entry)) 0 (curlE l r) (now (columns .exit)) (now (values .exit)) n ⌝ }
+    ensures { λ n. ⌜ Wrote (now (columns .entry)) (now (values .entry)) 0 (curlE (medium l (now (st .entry))) r) (now (columns .exit)) (now (values .exit)) n ⌝ }
 {
     let p = grid::at(l.grid, r);
     let b = grid::next_axis(p.component);
     let c = grid::last_axis(p.component);
-    let k = ahead(l, p, b, c, 1.0, 0, columns, values);
-    ahead(l, p, c, b, -1.0, k, columns, values)
+    let k = ahead(l, st, p, b, c, 1.0, 0, columns, values);
+    ahead(l, st, p, c, b, -1.0, k, columns, values)
 }
 
 // Curl H at edge r: the faces that it takes and their coefficients.
-pub fn curl_h(l: Lattice, r: usize, columns: &mut [usize], values: &mut [f64]) -> usize
+pub fn curl_h(l: Lattice, st: &[f64], r: usize, columns: &mut [usize], values: &mut [f64]) -> usize
     requires { ⌜ Limits (l .grid) ⌝ }
     requires { ⌜ r < unknownsOf (l .grid) ⌝ }
-    ensures { λ n. ⌜ Wrote (now (columns .entry)) (now (values .entry)) 0 (curlH l r) (now (columns .exit)) (now (values .exit)) n ⌝ }
+    ensures { λ n. ⌜ Wrote (now (columns .entry)) (now (values .entry)) 0 (curlH (medium l (now (st .entry))) r) (now (columns .exit)) (now (values .exit)) n ⌝ }
 {
     let p = grid::at(l.grid, r);
     let b = grid::next_axis(p.component);
     let c = grid::last_axis(p.component);
-    let k = behind(l, p, b, c, 1.0, 0, columns, values);
-    behind(l, p, c, b, -1.0, k, columns, values)
+    let k = behind(l, st, p, b, c, 1.0, 0, columns, values);
+    behind(l, st, p, c, b, -1.0, k, columns, values)
 }
 
 // The divergence at node q: the edges that it takes and their coefficients, fixed ones included.
-pub fn divergence(l: Lattice, q: usize, columns: &mut [usize], values: &mut [f64]) -> usize
+pub fn divergence(
+    l: Lattice,
+    st: &[f64],
+    q: usize,
+    columns: &mut [usize],
+    values: &mut [f64],
+) -> usize
     requires { ⌜ Limits (l .grid) ⌝ }
     requires { ⌜ q < unknownsOf (l .grid) ⌝ }
-    ensures { λ n. ⌜ Wrote (now (columns .entry)) (now (values .entry)) 0 (divergenceOf l q) (now (columns .exit)) (now (values .exit)) n ⌝ }
+    ensures { λ n. ⌜ Wrote (now (columns .entry)) (now (values .entry)) 0 (divergenceOf (medium l (now (st .entry))) q) (now (columns .exit)) (now (values .exit)) n ⌝ }
 {
     let p = grid::at(l.grid, q);
-    let k = behind(l, p, 0, 0, 1.0, 0, columns, values);
-    let k1 = behind(l, p, 1, 1, 1.0, k, columns, values);
-    behind(l, p, 2, 2, 1.0, k1, columns, values)
+    let k = behind(l, st, p, 0, 0, 1.0, 0, columns, values);
+    let k1 = behind(l, st, p, 1, 1, 1.0, k, columns, values);
+    behind(l, st, p, 2, 2, 1.0, k1, columns, values)
 }
 
 // The term of a node that is not fixed, at place k: none where there is no node.
 fn push_free_node(
     l: Lattice,
+    st: &[f64],
     to: Arrival,
     w: C64,
     k: usize,
@@ -171,12 +182,12 @@ fn push_free_node(
 ) -> usize
     requires { ⌜ Limits (l .grid) ⌝ }
     requires { ⌜ k < 64 ⌝ }
-    ensures { λ r. ⌜ Wrote (now (columns .entry)) (now (values .entry)) k (freeNodes l (termTo to w)) (now (columns .exit)) (now (values .exit)) r ⌝ }
+    ensures { λ r. ⌜ Wrote (now (columns .entry)) (now (values .entry)) k (freeNodes (medium l (now (st .entry))) (termTo to w)) (now (columns .exit)) (now (values .exit)) r ⌝ }
 {
     match to {
         Arrival::Beyond => k,
         Arrival::To(q, phase) => {
-            if neighbours::node_fixed(l, q) {
+            if neighbours::node_fixed(l, st, q) {
                 return k;
             }
             terms::push(columns, values, k, q, numbers::mul(w, phase))
@@ -187,6 +198,7 @@ fn push_free_node(
 // The term of the node at a position, at place k, if that node is not fixed.
 fn push_free_here(
     l: Lattice,
+    st: &[f64],
     p: Position,
     w: C64,
     k: usize,
@@ -196,24 +208,30 @@ fn push_free_here(
     requires { ⌜ Limits (l .grid) ⌝ }
     requires { ⌜ Inside (l .grid) p ⌝ }
     requires { ⌜ k < 64 ⌝ }
-    ensures { λ r. ⌜ Wrote (now (columns .entry)) (now (values .entry)) k (freeNodes l (termHere l p 0 w)) (now (columns .exit)) (now (values .exit)) r ⌝ }
+    ensures { λ r. ⌜ Wrote (now (columns .entry)) (now (values .entry)) k (freeNodes (medium l (now (st .entry))) (termHere (medium l (now (st .entry))) p 0 w)) (now (columns .exit)) (now (values .exit)) r ⌝ }
 {
     let here = grid::index(l.grid, grid::with_component(p, 0));
-    if neighbours::node_fixed(l, here) {
+    if neighbours::node_fixed(l, st, here) {
         return k;
     }
     terms::push(columns, values, k, here, w)
 }
 
 // The gradient at edge r: the nodes that it takes and their coefficients, fixed nodes left out.
-pub fn gradient(l: Lattice, r: usize, columns: &mut [usize], values: &mut [f64]) -> usize
+pub fn gradient(
+    l: Lattice,
+    st: &[f64],
+    r: usize,
+    columns: &mut [usize],
+    values: &mut [f64],
+) -> usize
     requires { ⌜ Limits (l .grid) ⌝ }
     requires { ⌜ r < unknownsOf (l .grid) ⌝ }
-    ensures { λ n. ⌜ Wrote (now (columns .entry)) (now (values .entry)) 0 (gradientOf l r) (now (columns .exit)) (now (values .exit)) n ⌝ }
+    ensures { λ n. ⌜ Wrote (now (columns .entry)) (now (values .entry)) 0 (gradientOf (medium l (now (st .entry))) r) (now (columns .exit)) (now (values .exit)) n ⌝ }
 {
     let p = grid::at(l.grid, r);
-    let w = half_weight(l, p, p.component, 1.0);
-    let to = neighbours::neighbour(l, grid::with_component(p, 0), p.component, true);
-    let k = push_free_node(l, to, w, 0, columns, values);
-    push_free_here(l, p, numbers::neg(w), k, columns, values)
+    let w = half_weight(l, st, p, p.component, 1.0);
+    let to = neighbours::neighbour(l, st, grid::with_component(p, 0), p.component, true);
+    let k = push_free_node(l, st, to, w, 0, columns, values);
+    push_free_here(l, st, p, numbers::neg(w), k, columns, values)
 }

@@ -2,8 +2,9 @@
 
 ghost use mathlib.Core.Path.{_≡_};
 ghost use Prim.Native.Nat.{_*_, _<_, _≤_};
+ghost use lib.ListN.{length};
 ghost use Rattle.lattice.specs.Grid.{nOf};
-ghost use Rattle.lattice.specs.Lattice.{edgesOf, isWall, nodesAt, halvesAt, tabulate, stretchAt, latticeOf, Lengths};
+ghost use Rattle.lattice.specs.Lattice.{medium, edgesOf, isWall, nodesAt, halvesAt, stretchNo, stretchAt, latticeOf, Lengths, LaidStretches};
 use crate::grid;
 use crate::grid::Grid3d;
 use numbers::C64;
@@ -14,17 +15,8 @@ pub enum Edges {
     Bloch(f64, f64),
 }
 
-// The setup's input without its lists.
-pub struct Input {
-    pub grid: Grid3d,
-    pub x: Edges,
-    pub y: Edges,
-    pub z: Edges,
-    pub k0: f64,
-    pub shift: f64,
-}
-
-// The lattice: the input with the stretches. Axis a has its stretch at node m, and halfway behind it, at 64 a + m.
+// The lattice record: the setup's input without its lists. Beside it goes the list of stretches `st`, 384 numbers: axis a has its stretch at node m at
+// 64 a + m, and the one halfway behind that node at 192 + 64 a + m.
 pub struct Lattice {
     pub grid: Grid3d,
     pub x: Edges,
@@ -32,13 +24,11 @@ pub struct Lattice {
     pub z: Edges,
     pub k0: f64,
     pub shift: f64,
-    pub nodes: [C64; 192],
-    pub halves: [C64; 192],
 }
 
 // The kind of an axis.
-pub fn edges_on(l: Lattice, axis: usize) -> Edges
-    ensures { λ r. ⌜ r ≡ edgesOf l axis ⌝ }
+pub fn edges_on(l: Lattice, st: &[f64], axis: usize) -> Edges
+    ensures { λ r. ⌜ r ≡ edgesOf (medium l (now (st .entry))) axis ⌝ }
 {
     if axis == 0 {
         return l.x;
@@ -58,24 +48,33 @@ pub fn is_wall(e: Edges) -> bool
     }
 }
 
-// The stretch at node m of an axis. `requires`: such a node's place in the record.
-pub fn node(l: Lattice, axis: usize, m: usize) -> C64
+// Number k of the list of stretches, and a number that is none where the list is too short.
+fn stretch_at(st: &[f64], k: usize) -> C64
+    ensures { λ r. ⌜ r ≡ stretchNo (now (st .entry)) k ⌝ }
+{
+    if k < st.len() / 2 {
+        return numbers::get(st, k);
+    }
+    let nan = 0.0 / 0.0;
+    C64 { re: nan, im: nan }
+}
+
+// The stretch at node m of an axis. `requires`: such a node's place in the list.
+pub fn node(l: Lattice, st: &[f64], axis: usize, m: usize) -> C64
     requires { ⌜ axis < 3 ⌝ }
     requires { ⌜ m < 64 ⌝ }
-    ensures { λ r. ⌜ r ≡ nodesAt l axis m ⌝ }
+    ensures { λ r. ⌜ r ≡ nodesAt (medium l (now (st .entry))) axis m ⌝ }
 {
-    let k = 64 * axis + m;
-    l.nodes[k]
+    stretch_at(st, 64 * axis + m)
 }
 
 // The stretch halfway behind node m of an axis.
-pub fn half(l: Lattice, axis: usize, m: usize) -> C64
+pub fn half(l: Lattice, st: &[f64], axis: usize, m: usize) -> C64
     requires { ⌜ axis < 3 ⌝ }
     requires { ⌜ m < 64 ⌝ }
-    ensures { λ r. ⌜ r ≡ halvesAt l axis m ⌝ }
+    ensures { λ r. ⌜ r ≡ halvesAt (medium l (now (st .entry))) axis m ⌝ }
 {
-    let k = 64 * axis + m;
-    l.halves[k]
+    stretch_at(st, 192 + 64 * axis + m)
 }
 
 // Place q of a record's list of stretches: number q % 64 of the list of axis q / 64, and zero beyond that axis's cells.
@@ -97,46 +96,33 @@ fn stretch(g: Grid3d, xs: &[f64], ys: &[f64], zs: &[f64], q: usize) -> C64
     numbers::zero()
 }
 
-// A record's list of stretches from three lists.
-fn stretches(g: Grid3d, xs: &[f64], ys: &[f64], zs: &[f64]) -> [C64; 192]
+// The stretches of three lists, laid over a list from number `from` on.
+fn lay_stretches(g: Grid3d, xs: &[f64], ys: &[f64], zs: &[f64], from: usize, out: &mut [f64])
     requires { ⌜ Lengths g (now xs) (now ys) (now zs) ⌝ }
-    ensures { λ r. ⌜ r ≡ tabulate (stretchAt g (now (xs .entry)) (now (ys .entry)) (now (zs .entry))) 192 0 ⌝ }
+    requires { ⌜ from ≤ 192 ⌝ }
+    ensures { λ _. ⌜ LaidStretches (stretchAt g (now (xs .entry)) (now (ys .entry)) (now (zs .entry))) from 192 (now (out .entry)) (now (out .exit)) ⌝ }
 {
-    let mut out = [numbers::zero(); 192];
     for q in 0..192 {
-        out[q] = stretch(g, xs, ys, zs, q);
+        numbers::put(out, from + q, stretch(g, xs, ys, zs, q));
     }
-    out
 }
 
-// The lattice record of an input and its six lists. `requires`: the lists have passed refusal 3.
-pub fn new(
-    v: Input,
+// The list of stretches of a lattice and its six lists. `requires`: the lists have passed refusal 3.
+pub fn stretches(
+    v: Lattice,
     xn: &[f64],
     xh: &[f64],
     yn: &[f64],
     yh: &[f64],
     zn: &[f64],
     zh: &[f64],
-) -> Lattice
+) -> [f64; 768]
     requires { ⌜ Lengths (v .grid) (now xn) (now yn) (now zn) ⌝ }
     requires { ⌜ Lengths (v .grid) (now xh) (now yh) (now zh) ⌝ }
-    ensures { λ r. ⌜ r ≡ latticeOf v (now (xn .entry)) (now (xh .entry)) (now (yn .entry)) (now (yh .entry)) (now (zn .entry)) (now (zh .entry)) ⌝ }
+    ensures { λ r. ⌜ (length r ≡ 768) × (medium v r ≡ latticeOf v (now (xn .entry)) (now (xh .entry)) (now (yn .entry)) (now (yh .entry)) (now (zn .entry)) (now (zh .entry))) ⌝ }
 {
-    let grid = v.grid;
-    let x = v.x;
-    let y = v.y;
-    let z = v.z;
-    let nodes = stretches(grid, xn, yn, zn);
-    let halves = stretches(grid, xh, yh, zh);
-    Lattice {
-        grid,
-        x,
-        y,
-        z,
-        k0: v.k0,
-        shift: v.shift,
-        nodes,
-        halves,
-    }
+    let mut out = [0.0; 768];
+    lay_stretches(v.grid, xn, yn, zn, 0, &mut out);
+    lay_stretches(v.grid, xh, yh, zh, 192, &mut out);
+    out
 }

@@ -2,13 +2,13 @@
 
 ghost use mathlib.Core.Path.{_≡_};
 ghost use Prim.Native.Nat.{_+_, _*_, _≤_, _<_};
+ghost use Rattle.lattice.specs.Lattice.{medium};
 ghost use Rattle.lattice.specs.Grid.{Limits};
 ghost use Rattle.lattice.specs.Line.{Held};
 ghost use Rattle.lattice.specs.Levels.{target as targetOf, mapsOf, threeAt, coarserThree, edgesOf, sameCells, depthOf, noLine, linesOf, levelLinesOf};
 use crate::check;
 use crate::check::Checked;
 use crate::lattice;
-use crate::lattice::Input;
 use crate::lattice::Lattice;
 use crate::line;
 use crate::line::Line;
@@ -65,21 +65,21 @@ pub fn target(level: usize) -> f64
     power as f64 * 1.5
 }
 
-fn across_maps(l: Lattice) -> Maps
+fn across_maps(l: Lattice, st: &[f64]) -> Maps
     requires { ⌜ Limits (l .grid) ⌝ }
-    ensures { λ r. ⌜ r ≡ mapsOf l ⌝ }
+    ensures { λ r. ⌜ r ≡ mapsOf (medium l (now (st .entry))) ⌝ }
 {
     Maps {
-        x: stretched::across_map(l, 0),
-        y: stretched::across_map(l, 1),
-        z: stretched::across_map(l, 2),
+        x: stretched::across_map(l, st, 0),
+        y: stretched::across_map(l, st, 1),
+        z: stretched::across_map(l, st, 2),
     }
 }
 
 // The finest level's lines.
-fn finest(l: Lattice) -> Three
+fn finest(l: Lattice, st: &[f64]) -> Three
     requires { ⌜ Limits (l .grid) ⌝ }
-    ensures { λ r. ⌜ r ≡ threeAt l 0 ⌝ }
+    ensures { λ r. ⌜ r ≡ threeAt (medium l (now (st .entry))) 0 ⌝ }
 {
     let g = l.grid;
     Three {
@@ -142,14 +142,14 @@ fn no_line() -> Line
 }
 
 // The levels' lines of a lattice. `requires`: a lattice within the limits; `levels` shows it.
-pub fn join_lines(l: Lattice, coarsest: usize) -> Lines
+pub fn join_lines(l: Lattice, st: &[f64], coarsest: usize) -> Lines
     requires { ⌜ Limits (l .grid) ⌝ }
-    ensures { λ r. ⌜ r ≡ record { depth = depthOf l coarsest; lines = linesOf l coarsest } ⌝ }
+    ensures { λ r. ⌜ r ≡ record { depth = depthOf (medium l (now (st .entry))) coarsest; lines = linesOf (medium l (now (st .entry))) coarsest } ⌝ }
 {
-    let m = across_maps(l);
+    let m = across_maps(l, st);
     let none = no_line();
     let mut lines = [none; 36];
-    let mut t = finest(l);
+    let mut t = finest(l, st);
     for level in 0..12 {
         let a = t.x;
         let b = t.y;
@@ -180,7 +180,7 @@ pub fn join_lines(l: Lattice, coarsest: usize) -> Lines
 
 // The levels' lines of a setup's input: the level count, or refusals 1 to 5.
 pub fn levels(
-    v: Input,
+    v: Lattice,
     xn: &[f64],
     xh: &[f64],
     yn: &[f64],
@@ -198,7 +198,8 @@ pub fn levels(
             lines: [no_line(); 36],
         };
     }
-    let found = join_lines(lattice::new(v, xn, xh, yn, yh, zn, zh), coarsest);
+    let st = lattice::stretches(v, xn, xh, yn, yh, zn, zh);
+    let found = join_lines(v, &st, coarsest);
     let depth = found.depth;
     let lines = found.lines;
     match depth {

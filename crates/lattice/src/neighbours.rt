@@ -2,6 +2,7 @@
 
 ghost use mathlib.Core.Path.{_≡_};
 ghost use Prim.Native.Nat.{_<_};
+ghost use Rattle.lattice.specs.Lattice.{medium};
 ghost use Rattle.lattice.specs.Grid.{nOf, placeOn, Limits, Inside};
 ghost use Rattle.lattice.specs.Neighbours.{shifted, neighbourOf, onWall, fixedAt, isFixed, isNodeFixed};
 use crate::grid;
@@ -43,12 +44,12 @@ pub fn shift(e: Edges, n: usize, m: usize, up: bool) -> Arrival
 }
 
 // The number of the neighbour of a position, one step along an axis, and the phase there.
-pub fn neighbour(l: Lattice, p: Position, axis: usize, up: bool) -> Arrival
+pub fn neighbour(l: Lattice, st: &[f64], p: Position, axis: usize, up: bool) -> Arrival
     requires { ⌜ Limits (l .grid) ⌝ }
     requires { ⌜ Inside (l .grid) p ⌝ }
-    ensures { λ r. ⌜ r ≡ neighbourOf l p axis up ⌝ }
+    ensures { λ r. ⌜ r ≡ neighbourOf (medium l (now (st .entry))) p axis up ⌝ }
 {
-    let e = lattice::edges_on(l, axis);
+    let e = lattice::edges_on(l, st, axis);
     match shift(e, grid::n(l.grid, axis), grid::place_on(p, axis), up) {
         Arrival::Beyond => Arrival::Beyond,
         Arrival::To(m, phase) => Arrival::To(
@@ -59,33 +60,34 @@ pub fn neighbour(l: Lattice, p: Position, axis: usize, up: bool) -> Arrival
 }
 
 // Whether the position is at place 0 of an axis that is a wall.
-pub fn on_wall(l: Lattice, p: Position, axis: usize) -> bool
-    ensures { λ r. ⌜ r ≡ onWall l p axis ⌝ }
+pub fn on_wall(l: Lattice, st: &[f64], p: Position, axis: usize) -> bool
+    ensures { λ r. ⌜ r ≡ onWall (medium l (now (st .entry))) p axis ⌝ }
 {
-    grid::place_on(p, axis) == 0 && lattice::is_wall(lattice::edges_on(l, axis))
+    grid::place_on(p, axis) == 0 && lattice::is_wall(lattice::edges_on(l, st, axis))
 }
 
 // Whether the edge at a position is fixed.
-pub fn fixed_at(l: Lattice, p: Position) -> bool
-    ensures { λ r. ⌜ r ≡ fixedAt l p ⌝ }
+pub fn fixed_at(l: Lattice, st: &[f64], p: Position) -> bool
+    ensures { λ r. ⌜ r ≡ fixedAt (medium l (now (st .entry))) p ⌝ }
 {
     let c = p.component;
-    (0 != c && on_wall(l, p, 0)) || ((1 != c && on_wall(l, p, 1)) || (2 != c && on_wall(l, p, 2)))
+    (0 != c && on_wall(l, st, p, 0))
+        || ((1 != c && on_wall(l, st, p, 1)) || (2 != c && on_wall(l, st, p, 2)))
 }
 
 // Whether edge r is fixed.
-pub fn fixed(l: Lattice, r: usize) -> bool
+pub fn fixed(l: Lattice, st: &[f64], r: usize) -> bool
     requires { ⌜ Limits (l .grid) ⌝ }
-    ensures { λ b. ⌜ b ≡ isFixed l r ⌝ }
+    ensures { λ b. ⌜ b ≡ isFixed (medium l (now (st .entry))) r ⌝ }
 {
-    fixed_at(l, grid::at(l.grid, r))
+    fixed_at(l, st, grid::at(l.grid, r))
 }
 
 // Whether node q is fixed.
-pub fn node_fixed(l: Lattice, q: usize) -> bool
+pub fn node_fixed(l: Lattice, st: &[f64], q: usize) -> bool
     requires { ⌜ Limits (l .grid) ⌝ }
-    ensures { λ b. ⌜ b ≡ isNodeFixed l q ⌝ }
+    ensures { λ b. ⌜ b ≡ isNodeFixed (medium l (now (st .entry))) q ⌝ }
 {
     let p = grid::at(l.grid, q);
-    on_wall(l, p, 0) || (on_wall(l, p, 1) || on_wall(l, p, 2))
+    on_wall(l, st, p, 0) || (on_wall(l, st, p, 1) || on_wall(l, st, p, 2))
 }

@@ -5,6 +5,7 @@ ghost use mathlib.Core.Path.{_≡_};
 ghost use Prim.Native.Nat.{ℕ, _+_, _*_, _<_, _≤_};
 ghost use lib.ListN.{length, take};
 ghost use Rattle.numbers.specs.Places.{numberAt};
+ghost use Rattle.lattice.specs.Lattice.{medium};
 ghost use Rattle.lattice.specs.Grid.{unknownsOf, Limits};
 ghost use Rattle.lattice.specs.Terms.{Wrote, Below, each, termsIn};
 ghost use Rattle.lattice.specs.Rows.{faceTerm, faceTerms, curlCurl, freeOf, freeSum, mean, nodeEps, nodeTerm, nodeTerms, gradDiv, rowInto};
@@ -19,6 +20,7 @@ use numbers::C64;
 // A term of curl E at place k, at an edge that is not fixed, times the negated weight of its face.
 fn push_face_term(
     l: Lattice,
+    st: &[f64],
     wh: C64,
     column: usize,
     we: C64,
@@ -28,9 +30,9 @@ fn push_face_term(
 ) -> usize
     requires { ⌜ Limits (l .grid) ⌝ }
     requires { ⌜ k < 64 ⌝ }
-    ensures { λ r. ⌜ Wrote (now (columns .entry)) (now (values .entry)) k (faceTerm l wh (record { column = column; number = we })) (now (columns .exit)) (now (values .exit)) r ⌝ }
+    ensures { λ r. ⌜ Wrote (now (columns .entry)) (now (values .entry)) k (faceTerm (medium l (now (st .entry))) wh (record { column = column; number = we })) (now (columns .exit)) (now (values .exit)) r ⌝ }
 {
-    if neighbours::fixed(l, column) {
+    if neighbours::fixed(l, st, column) {
         return k;
     }
     terms::push(
@@ -45,6 +47,7 @@ fn push_face_term(
 // The same of the first n terms of two lists.
 fn push_face_terms(
     l: Lattice,
+    st: &[f64],
     wh: C64,
     n: usize,
     cs: &[usize],
@@ -56,11 +59,11 @@ fn push_face_terms(
     requires { ⌜ Limits (l .grid) ⌝ }
     requires { ⌜ (n ≤ length (now cs)) × (2 * n ≤ length (now xs)) ⌝ }
     requires { ⌜ from + n < 64 ⌝ }
-    ensures { λ r. ⌜ Wrote (now (columns .entry)) (now (values .entry)) from (each (faceTerm l wh) (termsIn (now (cs .entry)) (now (xs .entry)) 0 n)) (now (columns .exit)) (now (values .exit)) r ⌝ }
+    ensures { λ r. ⌜ Wrote (now (columns .entry)) (now (values .entry)) from (each (faceTerm (medium l (now (st .entry))) wh) (termsIn (now (cs .entry)) (now (xs .entry)) 0 n)) (now (columns .exit)) (now (values .exit)) r ⌝ }
 {
     let mut k = from;
     for m in 0..n {
-        k = push_face_term(l, wh, cs[m], numbers::get(xs, m), k, columns, values);
+        k = push_face_term(l, st, wh, cs[m], numbers::get(xs, m), k, columns, values);
     }
     k
 }
@@ -68,6 +71,7 @@ fn push_face_terms(
 // The terms that a face brings, with the weight that it has in curl H.
 fn face_terms(
     l: Lattice,
+    st: &[f64],
     face: usize,
     wh: C64,
     k: usize,
@@ -77,17 +81,18 @@ fn face_terms(
     requires { ⌜ Limits (l .grid) ⌝ }
     requires { ⌜ face < unknownsOf (l .grid) ⌝ }
     requires { ⌜ k + 4 < 64 ⌝ }
-    ensures { λ r. ⌜ Wrote (now (columns .entry)) (now (values .entry)) k (faceTerms l (record { column = face; number = wh })) (now (columns .exit)) (now (values .exit)) r ⌝ }
+    ensures { λ r. ⌜ Wrote (now (columns .entry)) (now (values .entry)) k (faceTerms (medium l (now (st .entry))) (record { column = face; number = wh })) (now (columns .exit)) (now (values .exit)) r ⌝ }
 {
     let mut cs = [0usize; 4];
     let mut xs = [0.0; 8];
-    let n = curls::curl_e(l, face, &mut cs, &mut xs);
-    push_face_terms(l, wh, n, &cs, &xs, k, columns, values)
+    let n = curls::curl_e(l, st, face, &mut cs, &mut xs);
+    push_face_terms(l, st, wh, n, &cs, &xs, k, columns, values)
 }
 
 // The terms of the first n faces of two lists.
 fn push_faces(
     l: Lattice,
+    st: &[f64],
     n: usize,
     cs: &[usize],
     xs: &[f64],
@@ -99,11 +104,11 @@ fn push_faces(
     requires { ⌜ (n ≤ length (now cs)) × (2 * n ≤ length (now xs)) ⌝ }
     requires { ⌜ Below (unknownsOf (l .grid)) (now cs) n ⌝ }
     requires { ⌜ from + 4 * n < 64 ⌝ }
-    ensures { λ r. ⌜ Wrote (now (columns .entry)) (now (values .entry)) from (each (faceTerms l) (termsIn (now (cs .entry)) (now (xs .entry)) 0 n)) (now (columns .exit)) (now (values .exit)) r ⌝ }
+    ensures { λ r. ⌜ Wrote (now (columns .entry)) (now (values .entry)) from (each (faceTerms (medium l (now (st .entry)))) (termsIn (now (cs .entry)) (now (xs .entry)) 0 n)) (now (columns .exit)) (now (values .exit)) r ⌝ }
 {
     let mut k = from;
     for m in 0..n {
-        k = face_terms(l, cs[m], numbers::get(xs, m), k, columns, values);
+        k = face_terms(l, st, cs[m], numbers::get(xs, m), k, columns, values);
     }
     k
 }
@@ -111,6 +116,7 @@ fn push_faces(
 // Row r of - curl curl, from place k on.
 pub fn curl_curl_into(
     l: Lattice,
+    st: &[f64],
     r: usize,
     k: usize,
     columns: &mut [usize],
@@ -119,12 +125,12 @@ pub fn curl_curl_into(
     requires { ⌜ Limits (l .grid) ⌝ }
     requires { ⌜ r < unknownsOf (l .grid) ⌝ }
     requires { ⌜ k < 40 ⌝ }
-    ensures { λ n. ⌜ Wrote (now (columns .entry)) (now (values .entry)) k (curlCurl l r) (now (columns .exit)) (now (values .exit)) n ⌝ }
+    ensures { λ n. ⌜ Wrote (now (columns .entry)) (now (values .entry)) k (curlCurl (medium l (now (st .entry))) r) (now (columns .exit)) (now (values .exit)) n ⌝ }
 {
     let mut cs = [0usize; 4];
     let mut xs = [0.0; 8];
-    let n = curls::curl_h(l, r, &mut cs, &mut xs);
-    push_faces(l, n, &cs, &xs, k, columns, values)
+    let n = curls::curl_h(l, st, r, &mut cs, &mut xs);
+    push_faces(l, st, n, &cs, &xs, k, columns, values)
 }
 
 // ---- the permittivity at a node
@@ -136,18 +142,18 @@ pub struct Sum {
 }
 
 // The sum of the permittivities of those of the first n edges of a list that are not fixed.
-fn sum_free(l: Lattice, eps: &[f64], n: usize, cs: &[usize]) -> Sum
+fn sum_free(l: Lattice, st: &[f64], eps: &[f64], n: usize, cs: &[usize]) -> Sum
     requires { ⌜ Limits (l .grid) ⌝ }
     requires { ⌜ (n ≤ length (now cs)) × (n < 64) ⌝ }
     requires { ⌜ Below (unknownsOf (l .grid)) (now cs) n ⌝ }
     requires { ⌜ 2 * unknownsOf (l .grid) ≤ length (now eps) ⌝ }
-    ensures { λ r. ⌜ r ≡ freeSum l (numberAt (now (eps .entry))) (take n (now (cs .entry))) ⌝ }
+    ensures { λ r. ⌜ r ≡ freeSum (medium l (now (st .entry))) (numberAt (now (eps .entry))) (take n (now (cs .entry))) ⌝ }
 {
     let mut total = numbers::zero();
     let mut count = 0;
     for m in 0..n {
         let c = cs[m];
-        if !neighbours::fixed(l, c) {
+        if !neighbours::fixed(l, st, c) {
             total = numbers::add(total, numbers::get(eps, c));
             count += 1;
         }
@@ -156,14 +162,14 @@ fn sum_free(l: Lattice, eps: &[f64], n: usize, cs: &[usize]) -> Sum
 }
 
 // Their mean: 1 where every edge is fixed.
-fn mean_free(l: Lattice, eps: &[f64], n: usize, cs: &[usize]) -> C64
+fn mean_free(l: Lattice, st: &[f64], eps: &[f64], n: usize, cs: &[usize]) -> C64
     requires { ⌜ Limits (l .grid) ⌝ }
     requires { ⌜ (n ≤ length (now cs)) × (n < 64) ⌝ }
     requires { ⌜ Below (unknownsOf (l .grid)) (now cs) n ⌝ }
     requires { ⌜ 2 * unknownsOf (l .grid) ≤ length (now eps) ⌝ }
-    ensures { λ r. ⌜ r ≡ mean (numberAt (now (eps .entry))) (freeOf l (take n (now (cs .entry)))) ⌝ }
+    ensures { λ r. ⌜ r ≡ mean (numberAt (now (eps .entry))) (freeOf (medium l (now (st .entry))) (take n (now (cs .entry)))) ⌝ }
 {
-    let s = sum_free(l, eps, n, cs);
+    let s = sum_free(l, st, eps, n, cs);
     if s.count == 0 {
         return numbers::one();
     }
@@ -172,16 +178,16 @@ fn mean_free(l: Lattice, eps: &[f64], n: usize, cs: &[usize]) -> C64
 }
 
 // The permittivity at node q.
-pub fn node_eps(l: Lattice, eps: &[f64], q: usize) -> C64
+pub fn node_eps(l: Lattice, st: &[f64], eps: &[f64], q: usize) -> C64
     requires { ⌜ Limits (l .grid) ⌝ }
     requires { ⌜ q < unknownsOf (l .grid) ⌝ }
     requires { ⌜ 2 * unknownsOf (l .grid) ≤ length (now eps) ⌝ }
-    ensures { λ r. ⌜ r ≡ nodeEps l (numberAt (now (eps .entry))) q ⌝ }
+    ensures { λ r. ⌜ r ≡ nodeEps (medium l (now (st .entry))) (numberAt (now (eps .entry))) q ⌝ }
 {
     let mut cs = [0usize; 6];
     let mut xs = [0.0; 12];
-    let n = curls::divergence(l, q, &mut cs, &mut xs);
-    mean_free(l, eps, n, &cs)
+    let n = curls::divergence(l, st, q, &mut cs, &mut xs);
+    mean_free(l, st, eps, n, &cs)
 }
 
 // ---- the grad-div term
@@ -189,6 +195,7 @@ pub fn node_eps(l: Lattice, eps: &[f64], q: usize) -> C64
 // A term of the divergence at a node, at place k, at an edge that is not fixed.
 fn push_node_term(
     l: Lattice,
+    st: &[f64],
     eps: &[f64],
     wg: C64,
     inverse: C64,
@@ -201,9 +208,9 @@ fn push_node_term(
     requires { ⌜ Limits (l .grid) ⌝ }
     requires { ⌜ 2 * column + 1 < length (now eps) ⌝ }
     requires { ⌜ k < 64 ⌝ }
-    ensures { λ r. ⌜ Wrote (now (columns .entry)) (now (values .entry)) k (nodeTerm l (numberAt (now (eps .entry))) wg inverse (record { column = column; number = wd })) (now (columns .exit)) (now (values .exit)) r ⌝ }
+    ensures { λ r. ⌜ Wrote (now (columns .entry)) (now (values .entry)) k (nodeTerm (medium l (now (st .entry))) (numberAt (now (eps .entry))) wg inverse (record { column = column; number = wd })) (now (columns .exit)) (now (values .exit)) r ⌝ }
 {
-    if neighbours::fixed(l, column) {
+    if neighbours::fixed(l, st, column) {
         return k;
     }
     let w = numbers::mul(numbers::real_times(-(-1.0), wg), wd);
@@ -214,6 +221,7 @@ fn push_node_term(
 // The same of the first n terms of two lists.
 fn push_node_terms(
     l: Lattice,
+    st: &[f64],
     eps: &[f64],
     wg: C64,
     inverse: C64,
@@ -229,12 +237,13 @@ fn push_node_terms(
     requires { ⌜ Below (unknownsOf (l .grid)) (now cs) n ⌝ }
     requires { ⌜ 2 * unknownsOf (l .grid) ≤ length (now eps) ⌝ }
     requires { ⌜ from + n < 64 ⌝ }
-    ensures { λ r. ⌜ Wrote (now (columns .entry)) (now (values .entry)) from (each (nodeTerm l (numberAt (now (eps .entry))) wg inverse) (termsIn (now (cs .entry)) (now (xs .entry)) 0 n)) (now (columns .exit)) (now (values .exit)) r ⌝ }
+    ensures { λ r. ⌜ Wrote (now (columns .entry)) (now (values .entry)) from (each (nodeTerm (medium l (now (st .entry))) (numberAt (now (eps .entry))) wg inverse) (termsIn (now (cs .entry)) (now (xs .entry)) 0 n)) (now (columns .exit)) (now (values .exit)) r ⌝ }
 {
     let mut k = from;
     for m in 0..n {
         k = push_node_term(
             l,
+            st,
             eps,
             wg,
             inverse,
@@ -251,6 +260,7 @@ fn push_node_terms(
 // The terms that a node brings, with the weight that it has in the gradient.
 fn node_terms(
     l: Lattice,
+    st: &[f64],
     eps: &[f64],
     q: usize,
     wg: C64,
@@ -262,18 +272,19 @@ fn node_terms(
     requires { ⌜ q < unknownsOf (l .grid) ⌝ }
     requires { ⌜ 2 * unknownsOf (l .grid) ≤ length (now eps) ⌝ }
     requires { ⌜ k + 6 < 64 ⌝ }
-    ensures { λ r. ⌜ Wrote (now (columns .entry)) (now (values .entry)) k (nodeTerms l (numberAt (now (eps .entry))) (record { column = q; number = wg })) (now (columns .exit)) (now (values .exit)) r ⌝ }
+    ensures { λ r. ⌜ Wrote (now (columns .entry)) (now (values .entry)) k (nodeTerms (medium l (now (st .entry))) (numberAt (now (eps .entry))) (record { column = q; number = wg })) (now (columns .exit)) (now (values .exit)) r ⌝ }
 {
     let mut cs = [0usize; 6];
     let mut xs = [0.0; 12];
-    let n = curls::divergence(l, q, &mut cs, &mut xs);
-    let inverse = numbers::real_over(1.0, mean_free(l, eps, n, &cs));
-    push_node_terms(l, eps, wg, inverse, n, &cs, &xs, k, columns, values)
+    let n = curls::divergence(l, st, q, &mut cs, &mut xs);
+    let inverse = numbers::real_over(1.0, mean_free(l, st, eps, n, &cs));
+    push_node_terms(l, st, eps, wg, inverse, n, &cs, &xs, k, columns, values)
 }
 
 // The terms of the first n nodes of two lists.
 fn push_nodes(
     l: Lattice,
+    st: &[f64],
     eps: &[f64],
     n: usize,
     cs: &[usize],
@@ -287,11 +298,11 @@ fn push_nodes(
     requires { ⌜ Below (unknownsOf (l .grid)) (now cs) n ⌝ }
     requires { ⌜ 2 * unknownsOf (l .grid) ≤ length (now eps) ⌝ }
     requires { ⌜ from + 6 * n < 64 ⌝ }
-    ensures { λ r. ⌜ Wrote (now (columns .entry)) (now (values .entry)) from (each (nodeTerms l (numberAt (now (eps .entry)))) (termsIn (now (cs .entry)) (now (xs .entry)) 0 n)) (now (columns .exit)) (now (values .exit)) r ⌝ }
+    ensures { λ r. ⌜ Wrote (now (columns .entry)) (now (values .entry)) from (each (nodeTerms (medium l (now (st .entry))) (numberAt (now (eps .entry)))) (termsIn (now (cs .entry)) (now (xs .entry)) 0 n)) (now (columns .exit)) (now (values .exit)) r ⌝ }
 {
     let mut k = from;
     for m in 0..n {
-        k = node_terms(l, eps, cs[m], numbers::get(xs, m), k, columns, values);
+        k = node_terms(l, st, eps, cs[m], numbers::get(xs, m), k, columns, values);
     }
     k
 }
@@ -299,6 +310,7 @@ fn push_nodes(
 // Row r of the grad-div term, from place k on.
 pub fn grad_div_into(
     l: Lattice,
+    st: &[f64],
     eps: &[f64],
     r: usize,
     k: usize,
@@ -309,12 +321,12 @@ pub fn grad_div_into(
     requires { ⌜ r < unknownsOf (l .grid) ⌝ }
     requires { ⌜ 2 * unknownsOf (l .grid) ≤ length (now eps) ⌝ }
     requires { ⌜ k < 40 ⌝ }
-    ensures { λ n. ⌜ Wrote (now (columns .entry)) (now (values .entry)) k (gradDiv l (numberAt (now (eps .entry))) r) (now (columns .exit)) (now (values .exit)) n ⌝ }
+    ensures { λ n. ⌜ Wrote (now (columns .entry)) (now (values .entry)) k (gradDiv (medium l (now (st .entry))) (numberAt (now (eps .entry))) r) (now (columns .exit)) (now (values .exit)) n ⌝ }
 {
     let mut cs = [0usize; 2];
     let mut xs = [0.0; 4];
-    let n = curls::gradient(l, r, &mut cs, &mut xs);
-    push_nodes(l, eps, n, &cs, &xs, k, columns, values)
+    let n = curls::gradient(l, st, r, &mut cs, &mut xs);
+    push_nodes(l, st, eps, n, &cs, &xs, k, columns, values)
 }
 
 // ---- the row
@@ -322,6 +334,7 @@ pub fn grad_div_into(
 // Row r, from place 0 on: at most 29 terms.
 pub fn row_into(
     l: Lattice,
+    st: &[f64],
     eps: &[f64],
     r: usize,
     columns: &mut [usize],
@@ -330,13 +343,13 @@ pub fn row_into(
     requires { ⌜ Limits (l .grid) ⌝ }
     requires { ⌜ r < unknownsOf (l .grid) ⌝ }
     requires { ⌜ 2 * unknownsOf (l .grid) ≤ length (now eps) ⌝ }
-    ensures { λ n. ⌜ Wrote (now (columns .entry)) (now (values .entry)) 0 (rowInto l (numberAt (now (eps .entry))) r) (now (columns .exit)) (now (values .exit)) n ⌝ }
+    ensures { λ n. ⌜ Wrote (now (columns .entry)) (now (values .entry)) 0 (rowInto (medium l (now (st .entry))) (numberAt (now (eps .entry))) r) (now (columns .exit)) (now (values .exit)) n ⌝ }
 {
-    if neighbours::fixed(l, r) {
+    if neighbours::fixed(l, st, r) {
         return terms::push(columns, values, 0, r, numbers::one());
     }
     let d = numbers::real_times(l.k0 * l.k0, numbers::get(eps, r));
     let k = terms::push(columns, values, 0, r, d);
-    let k1 = curl_curl_into(l, r, k, columns, values);
-    grad_div_into(l, eps, r, k1, columns, values)
+    let k1 = curl_curl_into(l, st, r, k, columns, values);
+    grad_div_into(l, st, eps, r, k1, columns, values)
 }

@@ -2,6 +2,7 @@
 
 ghost use mathlib.Core.Path.{_≡_};
 ghost use Prim.Native.Nat.{_<_, min};
+ghost use Rattle.lattice.specs.Lattice.{medium};
 ghost use Rattle.lattice.specs.Grid.{Limits};
 ghost use Rattle.lattice.specs.Stretched.{acrossMap, alongMap, stretchedOf};
 use crate::grid;
@@ -16,10 +17,10 @@ pub struct Stretched {
 }
 
 // The map by the stretch of the cells.
-pub fn across_map(l: Lattice, axis: usize) -> [C64; 129]
+pub fn across_map(l: Lattice, st: &[f64], axis: usize) -> [C64; 129]
     requires { ⌜ Limits (l .grid) ⌝ }
     requires { ⌜ axis < 3 ⌝ }
-    ensures { λ r. ⌜ r ≡ acrossMap l axis ⌝ }
+    ensures { λ r. ⌜ r ≡ acrossMap (medium l (now (st .entry))) axis ⌝ }
 {
     let n = grid::n(l.grid, axis);
     let mut x = [numbers::zero(); 129];
@@ -27,7 +28,7 @@ pub fn across_map(l: Lattice, axis: usize) -> [C64; 129]
     for p in 0..2 * n {
         here = numbers::add(
             here,
-            numbers::real_times(0.5, lattice::half(l, axis, p / 2)),
+            numbers::real_times(0.5, lattice::half(l, st, axis, p / 2)),
         );
         x[p + 1] = here;
     }
@@ -35,31 +36,34 @@ pub fn across_map(l: Lattice, axis: usize) -> [C64; 129]
 }
 
 // The map by the stretch of the nodes.
-pub fn along_map(l: Lattice, axis: usize) -> [C64; 129]
+pub fn along_map(l: Lattice, st: &[f64], axis: usize) -> [C64; 129]
     requires { ⌜ Limits (l .grid) ⌝ }
     requires { ⌜ axis < 3 ⌝ }
-    ensures { λ r. ⌜ r ≡ alongMap l axis ⌝ }
+    ensures { λ r. ⌜ r ≡ alongMap (medium l (now (st .entry))) axis ⌝ }
 {
     let n = grid::n(l.grid, axis);
     let mut x = [numbers::zero(); 129];
     let mut here = numbers::zero();
     for p in 0..2 * n {
         let m = lesser((p + 1) / 2, n - 1);
-        here = numbers::add(here, numbers::real_times(0.5, lattice::node(l, axis, m)));
+        here = numbers::add(
+            here,
+            numbers::real_times(0.5, lattice::node(l, st, axis, m)),
+        );
         x[p + 1] = here;
     }
     x
 }
 
 // Both maps of an axis. `requires`: a lattice within the limits, and one of its axes.
-pub fn new(l: Lattice, axis: usize) -> Stretched
+pub fn new(l: Lattice, st: &[f64], axis: usize) -> Stretched
     requires { ⌜ Limits (l .grid) ⌝ }
     requires { ⌜ axis < 3 ⌝ }
-    ensures { λ r. ⌜ r ≡ stretchedOf l axis ⌝ }
+    ensures { λ r. ⌜ r ≡ stretchedOf (medium l (now (st .entry))) axis ⌝ }
 {
     Stretched {
-        across: across_map(l, axis),
-        along: along_map(l, axis),
+        across: across_map(l, st, axis),
+        along: along_map(l, st, axis),
     }
 }
 

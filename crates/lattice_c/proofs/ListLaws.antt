@@ -16,8 +16,8 @@ use Rattle.lattice.specs.Lattice.{latticeOf}
 use Rattle.lattice.specs.Line.{packed}
 use Rattle.lattice.specs.Check.{isSound, checkStretches}
 use Rattle.lattice.specs.Levels.{lineAt, noLine, lineNo, countOf, depthOf, linesOf, noLines, found, foundIf, levelLinesOf}
-use Rattle.lattice.specs.declared.lattice.Input.{Input}
 use Rattle.lattice.specs.declared.lattice.Lattice.{Lattice}
+use Rattle.lattice.specs.Lattice.{Medium}
 use Rattle.lattice.specs.declared.line.Line.{Line}
 use Rattle.lattice.specs.declared.check.Checked.{Checked}
 use Rattle.lattice.specs.declared.check.Checked.the-variants.{Sound, Cells, Scalar, Length, Entry}
@@ -107,7 +107,7 @@ long-none : length (noLine .ends) ≡ 65
 unfolding noLine
 long-none = refl
 
-long-line : (l : Lattice) → Limits (l .grid) → (count q : ℕ) → length (lineNo l count q .ends) ≡ 65
+long-line : (l : Medium) → Limits (l .grid) → (count q : ℕ) → length (lineNo l count q .ends) ≡ 65
 unfolding lineNo
 long-line l h count q = go (ltb (q / 3) count)
   where
@@ -115,7 +115,7 @@ long-line l h count q = go (ltb (q / 3) count)
     go true = long-packed (lineAt l (q % 3) (q / 3)) (line-over l h (q % 3) (q / 3) .most)
     go false = long-none
 
-whole-lines : (l : Lattice) → Limits (l .grid) → (coarsest : ℕ) → Whole (linesOf l coarsest)
+whole-lines : (l : Medium) → Limits (l .grid) → (coarsest : ℕ) → Whole (linesOf l coarsest)
 unfolding linesOf
 whole-lines l h coarsest =
     let count : ℕ = countOf (depthOf l coarsest) in
@@ -132,7 +132,7 @@ whole-none =
       long = λ q b d. ap (λ (k : Line). length (k .ends)) (getD-replicate 36 q noLine d b) ∙ long-none;
     }
 
-pub whole-levels : (v : Input) (xn xh yn yh zn zh : List Float) (coarsest : ℕ) → Whole (levelLinesOf v xn xh yn yh zn zh coarsest .lines)
+pub whole-levels : (v : Lattice) (xn xh yn yh zn zh : List Float) (coarsest : ℕ) → Whole (levelLinesOf v xn xh yn yh zn zh coarsest .lines)
 unfolding levelLinesOf found
 whole-levels v xn xh yn yh zn zh coarsest =
     go (checkStretches v xn xh yn yh zn zh) (λ e. lattice-limits v xn xh yn yh zn zh refl (stretches-sound v xn xh yn yh zn zh e .0))

@@ -22,8 +22,8 @@ use Rattle.lattice.specs.Stretched.{stretchedOf}
 use Rattle.lattice.specs.Terms.{Term, laidColumns, laidNumbers, Wrote}
 use Rattle.lattice.specs.Rows.{rowInto}
 use Rattle.lattice.specs.declared.check.Checked.{Checked}
-use Rattle.lattice.specs.declared.lattice.Input.{Input}
 use Rattle.lattice.specs.declared.lattice.Lattice.{Lattice}
+use Rattle.lattice.specs.Lattice.{Medium}
 use Rattle.lattice.specs.declared.stretched.Stretched.{Stretched}
 use Rattle.lattice.proofs.TermLaws.{wrote-append, wrote-columns, wrote-numbers, wrote-most}
 use Rattle.lattice.proofs.RowLaws.{row-most}
@@ -172,7 +172,7 @@ wrote-behind {cs} {ds} {xs} {ys} {n} {a} {b} {r} {ts} e f w =
 -- ---- rows, one behind another, each from its start on
 
 -- what is still to come from row r on, whose start is `from`, gives what the whole gives
-pub record Filling (l : Lattice) (f : ℕ → C64) (n : ℕ) (ss₀ cs₀ : List ℕ) (xs₀ : List Float) (ss cs : List ℕ) (xs : List Float) (from r : ℕ) : Type 0 where
+pub record Filling (l : Medium) (f : ℕ → C64) (n : ℕ) (ss₀ cs₀ : List ℕ) (xs₀ : List Float) (ss cs : List ℕ) (xs : List Float) (from r : ℕ) : Type 0 where
   pub high : r ≤ n
   pub most : from ≤ 29 * r
   pub starts : sets ss r (startsFrom l f (n - r) r from) ≡ sets ss₀ 0 (startsFrom l f n 0 0)
@@ -186,7 +186,7 @@ pub record Filling (l : Lattice) (f : ℕ → C64) (n : ℕ) (ss₀ cs₀ : List
 laid : (cs : List ℕ) (xs : List Float) (k : ℕ) (ts : List Term) → Wrote cs xs k ts (laidColumns cs k ts) (laidNumbers xs k ts) (k + length ts)
 laid cs xs k ts = record { columns = refl; numbers = refl; next = refl }
 
-module _ {l : Lattice} {f : ℕ → C64} {n : ℕ} where
+module _ {l : Medium} {f : ℕ → C64} {n : ℕ} where
   pub filling-start : {ss cs : List ℕ} {xs : List Float} → Filling l f n ss cs xs ss cs xs 0 0
   filling-start {ss} {cs} {xs} =
       record {
@@ -237,40 +237,40 @@ module _ {l : Lattice} {f : ℕ → C64} {n : ℕ} where
 
 -- ---- refused or not
 
-pub maps-none : {b : Bool} {l : Lattice} {axis : ℕ} {xs ys : List Float} → b ≡ false → MapsLeft b l axis xs ys xs ys 0
+pub maps-none : {b : Bool} {l : Medium} {axis : ℕ} {xs ys : List Float} → b ≡ false → MapsLeft b l axis xs ys xs ys 0
 maps-none e = rw e (record { across = refl; along = refl; count = refl })
 
-pub rows-none : {b : Bool} {l : Lattice} {f : ℕ → C64} {n : ℕ} {ss cs : List ℕ} {xs : List Float} → b ≡ false → RowsLeft b l f n ss cs xs ss cs xs 0
+pub rows-none : {b : Bool} {l : Medium} {f : ℕ → C64} {n : ℕ} {ss cs : List ℕ} {xs : List Float} → b ≡ false → RowsLeft b l f n ss cs xs ss cs xs 0
 rows-none e = rw e (record { starts = refl; columns = refl; numbers = refl; count = refl })
 
-told : (f : Input → Checked) {v w : Input} {a : Checked} {r b : Bool} → v ≡ w → a ≡ f v → r ≡ isSound a → r ≡ b → isSound (f w) ≡ b
-told f e p q h = ap (λ (u : Input). isSound (f u)) (sym e) ∙ (ap isSound (sym p) ∙ (sym q ∙ h))
+told : (f : Lattice → Checked) {v w : Lattice} {a : Checked} {r b : Bool} → v ≡ w → a ≡ f v → r ≡ isSound a → r ≡ b → isSound (f w) ≡ b
+told f e p q h = ap (λ (u : Lattice). isSound (f u)) (sym e) ∙ (ap isSound (sym p) ∙ (sym q ∙ h))
 
 -- what the code finds of its input v is so of w, which v is
-module _ {v w : Input} (xn xh yn yh zn zh : List Float) (same : v ≡ w) where
+module _ {v w : Lattice} (xn xh yn yh zn zh : List Float) (same : v ≡ w) where
   pub stretches-told : {a : Checked} {r b : Bool}
       → a ≡ checkStretches v xn xh yn yh zn zh → r ≡ isSound a → r ≡ b → isSound (checkStretches w xn xh yn yh zn zh) ≡ b
-  stretches-told = told (λ (u : Input). checkStretches u xn xh yn yh zn zh) same
+  stretches-told = told (λ (u : Lattice). checkStretches u xn xh yn yh zn zh) same
 
   pub all-told : (eps : List Float) {a : Checked} {r b : Bool}
       → a ≡ checkOf v xn xh yn yh zn zh eps → r ≡ isSound a → r ≡ b → isSound (checkOf w xn xh yn yh zn zh eps) ≡ b
-  all-told eps = told (λ (u : Input). checkOf u xn xh yn yh zn zh eps) same
+  all-told eps = told (λ (u : Lattice). checkOf u xn xh yn yh zn zh eps) same
 
-  pub maps-all : {b : Bool} {l : Lattice} {s : Stretched} {axis n : ℕ} {xs ys xs′ ys′ : List Float}
+  pub maps-all : {b : Bool} {l : Medium} {s : Stretched} {axis n : ℕ} {xs ys xs′ ys′ : List Float}
       → b ≡ true → l ≡ latticeOf v xn xh yn yh zn zh → s ≡ stretchedOf l axis
       → xs′ ≡ laidAll xs 0 (s .across) → ys′ ≡ laidAll ys 0 (s .along) → n ≡ nOf (v .grid) axis
       → MapsLeft b (latticeOf w xn xh yn yh zn zh) axis xs ys xs′ ys′ (2 * n + 1)
   unfolding stretchedOf latticeOf
   maps-all {b} {l} {s} {axis} {n} {xs} {ys} e d k p q h =
-      let m = k ∙ ap (λ (u : Lattice). stretchedOf u axis) (d ∙ ap (λ (u : Input). latticeOf u xn xh yn yh zn zh) same) in
+      let m = k ∙ ap (λ (u : Medium). stretchedOf u axis) (d ∙ ap (λ (u : Lattice). latticeOf u xn xh yn yh zn zh) same) in
       rw e
       (record {
         across = p ∙ ap (λ (t : Stretched). laidAll xs 0 (t .across)) m;
         along = q ∙ ap (λ (t : Stretched). laidAll ys 0 (t .along)) m;
-        count = ap (λ (i : ℕ). 2 * i + 1) (h ∙ ap (λ (u : Input). nOf (u .grid) axis) same);
+        count = ap (λ (i : ℕ). 2 * i + 1) (h ∙ ap (λ (u : Lattice). nOf (u .grid) axis) same);
       })
 
-  pub rows-all : {b : Bool} {l : Lattice} {f : ℕ → C64} {n : ℕ} {ss cs ss′ cs′ : List ℕ} {xs xs′ : List Float} {r : ℕ}
+  pub rows-all : {b : Bool} {l : Medium} {f : ℕ → C64} {n : ℕ} {ss cs ss′ cs′ : List ℕ} {xs xs′ : List Float} {r : ℕ}
       → b ≡ true → l ≡ latticeOf v xn xh yn yh zn zh → n ≡ unknownsOf (v .grid)
       → RowsLeft true l f n ss cs xs ss′ cs′ xs′ r
       → RowsLeft b (latticeOf w xn xh yn yh zn zh) f (unknownsOf (w .grid)) ss cs xs ss′ cs′ xs′ r
@@ -289,7 +289,7 @@ second : (c d : Checked) → isSound (andThen c d) ≡ true → isSound d ≡ tr
 second c d e = sym (ap isSound (goes-on {a = c} {x = c} d refl refl (first c d e))) ∙ e
 
 -- it lies within the limits, and its lists are as long as the axes and the edges ask
-pub all-sound : (v : Input) (xn xh yn yh zn zh eps : List Float) → isSound (checkOf v xn xh yn yh zn zh eps) ≡ true
+pub all-sound : (v : Lattice) (xn xh yn yh zn zh eps : List Float) → isSound (checkOf v xn xh yn yh zn zh eps) ≡ true
     → Limits (v .grid) × Lengths (v .grid) xn yn zn × Lengths (v .grid) xh yh zh × (length eps ≡ 2 * unknownsOf (v .grid))
 all-sound v xn xh yn yh zn zh eps e =
     let g = v .grid in
@@ -304,10 +304,3 @@ all-sound v xn xh yn yh zn zh eps e =
     let l = lengths-are g xn xh yn yh zn zh (first (checkLengths 0 six) c k) in
     let m = length-told 6 (unknownsOf g) eps [] (first (checkLengths 6 one) d (second (checkLengths 0 six) c k)) in
     (grid-sound v (first a b h), l .0, l .1, m .0)
-
--- what the rows of its lattice ask
-pub rows-asked : (v : Input) (xn xh yn yh zn zh : List Float) {l : Lattice} {n m : ℕ}
-    → l ≡ latticeOf v xn xh yn yh zn zh → n ≡ unknownsOf (v .grid) → Limits (v .grid) → m ≡ 2 * unknownsOf (v .grid)
-    → Limits (l .grid) × ((n ≡ unknownsOf (l .grid)) × (2 * unknownsOf (l .grid) ≤ m))
-unfolding latticeOf
-rows-asked v xn xh yn yh zn zh e h p q = rw e (p, (h, omega arith))

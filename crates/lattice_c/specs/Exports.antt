@@ -20,8 +20,8 @@ use Rattle.lattice.specs.Levels.{verdict}
 use Rattle.lattice.specs.Stretched.{acrossMap, alongMap}
 use Rattle.lattice.specs.declared.lattice.Edges.{Edges}
 use Rattle.lattice.specs.declared.lattice.Edges.the-variants.{Pml, Bloch}
-use Rattle.lattice.specs.declared.lattice.Input.{Input}
 use Rattle.lattice.specs.declared.lattice.Lattice.{Lattice}
+use Rattle.lattice.specs.Lattice.{Medium}
 use Rattle.lattice.specs.declared.levels.Answer.{Answer}
 use Rattle.lattice.specs.declared.levels.LevelLines.{LevelLines}
 use Rattle.lattice.specs.declared.line.Line.{Line}
@@ -33,7 +33,7 @@ unfoldable pub edgesFrom : Float → Float → Float → Edges
 edgesFrom kind re im = cond (Ieee.eq kind zeroF) Pml (Bloch re im)
 
 -- no cells: it is refused
-unfoldable pub noInput : Input
+unfoldable pub noInput : Lattice
 noInput =
     record {
       grid = record { nx = 0; ny = 0; nz = 0; dx = oneF; dy = oneF; dz = oneF };
@@ -44,7 +44,7 @@ noInput =
       shift = zeroF;
     }
 
-unfoldable pub inputOf : List ℕ → List Float → Input
+unfoldable pub inputOf : List ℕ → List Float → Lattice
 inputOf cells scalars =
     cond (ltb (length cells) 3) noInput
     (cond (ltb (length scalars) 14) noInput
@@ -93,22 +93,22 @@ laidAll xs k [] = xs
 laidAll xs k (v ∷ vs) = laidAll (setNumber xs k v) (suc k) vs
 
 -- n rows from row r on, and where each starts, from k on, the end included
-unfoldable pub rowsFrom : Lattice → (ℕ → C64) → ℕ → ℕ → List Term
+unfoldable pub rowsFrom : Medium → (ℕ → C64) → ℕ → ℕ → List Term
 rowsFrom l f zero r = []
 rowsFrom l f (suc n) r = rowInto l f r ++ rowsFrom l f n (suc r)
 
-unfoldable pub startsFrom : Lattice → (ℕ → C64) → ℕ → ℕ → ℕ → List ℕ
+unfoldable pub startsFrom : Medium → (ℕ → C64) → ℕ → ℕ → ℕ → List ℕ
 startsFrom l f zero r k = k ∷ []
 startsFrom l f (suc n) r k = k ∷ startsFrom l f n (suc r) (k + length (rowInto l f r))
 
 -- what the maps of an axis leave
-pub record MapsLeft (sound : Bool) (l : Lattice) (axis : ℕ) (xs ys xs′ ys′ : List Float) (r : ℕ) : Type 0 where
+pub record MapsLeft (sound : Bool) (l : Medium) (axis : ℕ) (xs ys xs′ ys′ : List Float) (r : ℕ) : Type 0 where
   pub across : xs′ ≡ cond sound (laidAll xs 0 (acrossMap l axis)) xs
   pub along : ys′ ≡ cond sound (laidAll ys 0 (alongMap l axis)) ys
   pub count : r ≡ cond sound (2 * nOf (l .grid) axis + 1) 0
 
 -- what n rows leave
-pub record RowsLeft (sound : Bool) (l : Lattice) (f : ℕ → C64) (n : ℕ) (ss cs : List ℕ) (xs : List Float) (ss′ cs′ : List ℕ) (xs′ : List Float) (r : ℕ)
+pub record RowsLeft (sound : Bool) (l : Medium) (f : ℕ → C64) (n : ℕ) (ss cs : List ℕ) (xs : List Float) (ss′ cs′ : List ℕ) (xs′ : List Float) (r : ℕ)
     : Type 0 where
   pub starts : ss′ ≡ cond sound (sets ss 0 (startsFrom l f n 0 0)) ss
   pub columns : cs′ ≡ cond sound (laidColumns cs 0 (rowsFrom l f n 0)) cs

@@ -11,7 +11,7 @@ ghost use lib.ListN.{length, getD, set};
 ghost use lib.Seq.{sets};
 ghost use Rattle.numbers.specs.Places.{numberAt};
 ghost use Rattle.lattice.specs.Grid.{unknownsOf, Limits};
-ghost use Rattle.lattice.specs.Lattice.{latticeOf};
+ghost use Rattle.lattice.specs.Lattice.{medium, latticeOf};
 ghost use Rattle.lattice.specs.Terms.{Wrote};
 ghost use Rattle.lattice.specs.Rows.{rowInto};
 ghost use Rattle.lattice.specs.Check.{verdictOf, isSound, checkOf, checkStretches};
@@ -22,7 +22,6 @@ use lattice::check::Checked;
 use lattice::grid;
 use lattice::grid::Grid3d;
 use lattice::lattice::Edges;
-use lattice::lattice::Input;
 use lattice::lattice::Lattice;
 use lattice::levels;
 use lattice::levels::Answer;
@@ -43,10 +42,10 @@ fn edges(kind: f64, re: f64, im: f64) -> Edges
 }
 
 // An input of no cells, which is refused.
-fn no_input() -> Input
+fn no_input() -> Lattice
     ensures { λ r. ⌜ r ≡ noInput ⌝ }
 {
-    Input {
+    Lattice {
         grid: Grid3d {
             nx: 0,
             ny: 0,
@@ -64,7 +63,7 @@ fn no_input() -> Input
 }
 
 // The input of two lists; one of no cells where either list is too short.
-fn input(cells: &[usize], scalars: &[f64]) -> Input
+fn input(cells: &[usize], scalars: &[f64]) -> Lattice
     ensures { λ r. ⌜ r ≡ inputOf (now (cells .entry)) (now (scalars .entry)) ⌝ }
 {
     if cells.len() < 3 {
@@ -73,7 +72,7 @@ fn input(cells: &[usize], scalars: &[f64]) -> Input
     if scalars.len() < 14 {
         return no_input();
     }
-    Input {
+    Lattice {
         grid: Grid3d {
             nx: cells[0],
             ny: cells[1],
@@ -236,7 +235,8 @@ pub extern "C" fn lattice_maps(
     if !check::is_sound(check::check_stretches(v, xn, xh, yn, yh, zn, zh)) {
         return 0;
     }
-    let maps = stretched::new(lattice::lattice::new(v, xn, xh, yn, yh, zn, zh), axis);
+    let st = lattice::lattice::stretches(v, xn, xh, yn, yh, zn, zh);
+    let maps = stretched::new(v, &st, axis);
     let a = maps.across;
     let b = maps.along;
     put_numbers(a, across);
@@ -258,6 +258,7 @@ fn lesser(a: usize, b: usize) -> usize
 // Row r, from place `from` of the lists on. The place behind it.
 fn put_row(
     l: Lattice,
+    st: &[f64],
     eps: &[f64],
     r: usize,
     from: usize,
@@ -268,16 +269,17 @@ fn put_row(
     requires { ⌜ r < unknownsOf (l .grid) ⌝ }
     requires { ⌜ 2 * unknownsOf (l .grid) ≤ length (now eps) ⌝ }
     requires { ⌜ from < 1000000 ⌝ }
-    ensures { λ n. ⌜ Wrote (now (columns .entry)) (now (values .entry)) from (rowInto l (numberAt (now (eps .entry))) r) (now (columns .exit)) (now (values .exit)) n ⌝ }
+    ensures { λ n. ⌜ Wrote (now (columns .entry)) (now (values .entry)) from (rowInto (medium l (now (st .entry))) (numberAt (now (eps .entry))) r) (now (columns .exit)) (now (values .exit)) n ⌝ }
 {
     let a = lesser(from, columns.len());
     let b = lesser(2 * from, values.len());
-    from + rows::row_into(l, eps, r, &mut columns[a..], &mut values[b..])
+    from + rows::row_into(l, st, eps, r, &mut columns[a..], &mut values[b..])
 }
 
 // Every row, one behind another, each from its start on. How many terms they have.
 fn put_rows(
     l: Lattice,
+    st: &[f64],
     n: usize,
     eps: &[f64],
     starts: &mut [usize],
@@ -287,12 +289,12 @@ fn put_rows(
     requires { ⌜ Limits (l .grid) ⌝ }
     requires { ⌜ n ≡ unknownsOf (l .grid) ⌝ }
     requires { ⌜ 2 * unknownsOf (l .grid) ≤ length (now eps) ⌝ }
-    ensures { λ r. ⌜ RowsLeft true l (numberAt (now (eps .entry))) n (now (starts .entry)) (now (columns .entry)) (now (values .entry)) (now (starts .exit)) (now (columns .exit)) (now (values .exit)) r ⌝ }
+    ensures { λ r. ⌜ RowsLeft true (medium l (now (st .entry))) (numberAt (now (eps .entry))) n (now (starts .entry)) (now (columns .entry)) (now (values .entry)) (now (starts .exit)) (now (columns .exit)) (now (values .exit)) r ⌝ }
 {
     let mut from = 0;
     for r in 0..n {
         put(starts, r, from);
-        from = put_row(l, eps, r, from, columns, values);
+        from = put_row(l, st, eps, r, from, columns, values);
     }
     put(starts, n, from);
     from
@@ -321,6 +323,6 @@ pub extern "C" fn lattice_rows(
     if !check::is_sound(check::check(v, xn, xh, yn, yh, zn, zh, eps)) {
         return 0;
     }
-    let l = lattice::lattice::new(v, xn, xh, yn, yh, zn, zh);
-    put_rows(l, grid::unknowns(v.grid), eps, starts, columns, values)
+    let st = lattice::lattice::stretches(v, xn, xh, yn, yh, zn, zh);
+    put_rows(v, &st, grid::unknowns(v.grid), eps, starts, columns, values)
 }

@@ -3,7 +3,7 @@ use lattice::check;
 use lattice::check::Checked;
 use lattice::grid::Grid3d;
 use lattice::lattice::Edges;
-use lattice::lattice::Input;
+use lattice::lattice::Lattice;
 use lattice::levels;
 use lattice::levels::Answer;
 use lattice::line::Line;
@@ -74,7 +74,7 @@ fn list<'a>(
     sized(good, doubles(n))
 }
 
-fn input(nx: usize, ny: usize, nz: usize) -> Input {
+fn input(nx: usize, ny: usize, nz: usize) -> Lattice {
     let grid = Grid3d {
         nx,
         ny,
@@ -83,7 +83,7 @@ fn input(nx: usize, ny: usize, nz: usize) -> Input {
         dy: 1.0,
         dz: 1.0,
     };
-    Input {
+    Lattice {
         grid,
         x: Edges::Pml,
         y: Edges::Bloch(1.0, 0.0),
@@ -96,7 +96,7 @@ fn input(nx: usize, ny: usize, nz: usize) -> Input {
 // What `check` answers where list `which` is taken from `bad`.
 fn checked<'a>(
     text: &[u8],
-    v: Input,
+    v: Lattice,
     edges: usize,
     good: &'a [f64],
     bad: &'a [f64],
@@ -157,7 +157,7 @@ fn level_lines(lines: [Line; 36]) {
 }
 
 // The levels' lines along x, where each cell of x has its stretch in `halves`.
-fn lined(text: &[u8], v: Input, nodes: &[f64], halves: &[f64], coarsest: usize) {
+fn lined(text: &[u8], v: Lattice, nodes: &[f64], halves: &[f64], coarsest: usize) {
     let g = v.grid;
     let xn = sized(nodes, doubles(g.nx));
     let xh = sized(halves, doubles(g.nx));
@@ -211,17 +211,17 @@ fn grids(good: &[f64]) {
     );
 }
 
-fn scalar(text: &[u8], v: Input, good: &[f64]) {
+fn scalar(text: &[u8], v: Lattice, good: &[f64]) {
     checked(text, v, 24, good, good, 9, 0);
 }
 
 // The input with other scalars.
-fn scaled(dx: f64, dy: f64, dz: f64, k0: f64, shift: f64) -> Input {
+fn scaled(dx: f64, dy: f64, dz: f64, k0: f64, shift: f64) -> Lattice {
     let v = input(2, 2, 2);
     let x = v.x;
     let y = v.y;
     let z = v.z;
-    Input {
+    Lattice {
         grid: Grid3d {
             nx: 2,
             ny: 2,
@@ -251,7 +251,7 @@ fn steps(good: &[f64]) {
 }
 
 // The input with the phase (re, im) on one axis.
-fn phased(axis: usize, re: f64, im: f64) -> Input {
+fn phased(axis: usize, re: f64, im: f64) -> Lattice {
     let v = input(2, 2, 2);
     let grid = v.grid;
     let k0 = v.k0;
@@ -259,7 +259,7 @@ fn phased(axis: usize, re: f64, im: f64) -> Input {
     let p = Edges::Bloch(re, im);
     let q = Edges::Pml;
     if axis == 0 {
-        return Input {
+        return Lattice {
             grid,
             x: p,
             y: q,
@@ -269,7 +269,7 @@ fn phased(axis: usize, re: f64, im: f64) -> Input {
         };
     }
     if axis == 1 {
-        return Input {
+        return Lattice {
             grid,
             x: q,
             y: p,
@@ -278,7 +278,7 @@ fn phased(axis: usize, re: f64, im: f64) -> Input {
             shift,
         };
     }
-    Input {
+    Lattice {
         grid,
         x: q,
         y: q,

@@ -5,10 +5,12 @@ use crate::{norm, ours, table};
 use num_complex::Complex64 as c64;
 use source::{Line, Options, Stretched};
 
-// What was found equal.
+// What was found equal, in lists lent exactly as long as needed.
 #[derive(Default)]
 pub struct Counts {
-    pub lattices: u64,
+    pub inputs: u64,
+    // inputs of which the lists were lent in other lengths too
+    pub other_lengths: u64,
     pub levels: u64,
     pub lines: u64,
     pub maps: u64,
@@ -77,21 +79,30 @@ fn same_count(what: &str, ours: usize, theirs: usize) -> Result<(), String> {
     if ours == theirs { Ok(()) } else { Err(format!("{what}: ours {ours}, expected {theirs}")) }
 }
 
-// Everything about one input.
+// Everything about one input: in lists exactly as long as needed, and in lists of the lengths that it names.
 pub fn compare(c: &Case, counts: &mut Counts) -> Result<(), String> {
-    counts.lattices += 1;
-    check(c, counts)?;
-    levels(c, counts)?;
-    maps(c, counts)?;
-    if c.rows {
-        rows(c, counts)?;
+    compare_in(c, [0; 8], counts)?;
+    counts.inputs += 1;
+    if c.room != [0; 8] {
+        compare_in(c, c.room, &mut Counts::default())?;
+        counts.other_lengths += 1;
     }
     Ok(())
 }
 
-fn check(c: &Case, counts: &mut Counts) -> Result<(), String> {
+fn compare_in(c: &Case, room: [i64; 8], counts: &mut Counts) -> Result<(), String> {
+    check(c, room[0], counts)?;
+    levels(c, [room[0], room[1], room[2]], counts)?;
+    maps(c, [room[3], room[4]], counts)?;
+    if c.rows {
+        rows(c, [room[5], room[6], room[7]], counts)?;
+    }
+    Ok(())
+}
+
+fn check(c: &Case, room: i64, counts: &mut Counts) -> Result<(), String> {
     let (number, place) = table::refusal(c, 7).unwrap_or((0, 0));
-    let length = lent(2, c.room[0]);
+    let length = lent(2, room);
     let mut out = words_after(length, &[]);
     ours::check(c, &mut out[..length]);
     same_words("lattice_check", &out, &words_after(length, &[number, place]))?;
@@ -112,14 +123,14 @@ fn expected_levels(c: &Case) -> ([usize; 2], Vec<[Line; 3]>) {
     }
 }
 
-fn levels(c: &Case, counts: &mut Counts) -> Result<(), String> {
+fn levels(c: &Case, room: [i64; 3], counts: &mut Counts) -> Result<(), String> {
     let (answer, lines) = expected_levels(c);
     let (mut cells, mut ends) = (vec![0; 36], vec![0; 36 * 65]);
     for (q, line) in lines.iter().flatten().enumerate() {
         cells[q] = line.cells();
         ends[65 * q..65 * q + line.ends.len()].copy_from_slice(&line.ends);
     }
-    let length = [lent(2, c.room[0]), lent(36, c.room[1]), lent(36 * 65, c.room[2])];
+    let length = [lent(2, room[0]), lent(36, room[1]), lent(36 * 65, room[2])];
     let mut lists = length.map(|n| words_after(n, &[]));
     let [out, counted, ended] = &mut lists;
     ours::levels(c, &mut out[..length[0]], &mut counted[..length[1]], &mut ended[..length[2]]);
@@ -137,10 +148,10 @@ fn levels(c: &Case, counts: &mut Counts) -> Result<(), String> {
     Ok(())
 }
 
-fn maps(c: &Case, counts: &mut Counts) -> Result<(), String> {
+fn maps(c: &Case, room: [i64; 2], counts: &mut Counts) -> Result<(), String> {
     let sound = table::refusal(c, 6).is_none();
     let theirs = if sound { Some(Stretched::new(&c.lattice())) } else { None };
-    let length = [lent(258, c.room[3]), lent(258, c.room[4])];
+    let length = [lent(258, room[0]), lent(258, room[1])];
     for axis in 0..4 {
         let (mut across, mut along) = (Vec::new(), Vec::new());
         let mut count = 0;
@@ -176,7 +187,7 @@ fn collected(row: &[(usize, c64)]) -> Vec<(usize, c64)> {
     columns.into_iter().map(sum).collect()
 }
 
-fn rows(c: &Case, counts: &mut Counts) -> Result<(), String> {
+fn rows(c: &Case, room: [i64; 3], counts: &mut Counts) -> Result<(), String> {
     let (mut starts, mut columns, mut values) = (Vec::new(), Vec::new(), Vec::new());
     if table::refusal(c, 7).is_none() {
         let lattice = c.lattice();
@@ -190,12 +201,7 @@ fn rows(c: &Case, counts: &mut Counts) -> Result<(), String> {
             starts.push(columns.len());
         }
     }
-    pushed_rows(c, [0; 3], (&starts, &columns, &values), counts)?;
-    let room = [c.room[5], c.room[6], c.room[7]];
-    if room != [0; 3] {
-        pushed_rows(c, room, (&starts, &columns, &values), counts)?;
-    }
-    Ok(())
+    pushed_rows(c, room, (&starts, &columns, &values), counts)
 }
 
 fn pushed_rows(
@@ -232,9 +238,8 @@ fn pushed_rows(
         collected_rows(c, &a, &b, &x, counts)?;
     }
     counts.rows += starts.len().saturating_sub(1) as u64;
-    let fit = values.len().min(length[2] / 2);
-    counts.numbers += fit as u64;
-    counts.not_finite += values[..fit].iter().filter(|z| !z.is_finite()).count() as u64;
+    counts.numbers += values.len() as u64;
+    counts.not_finite += values.iter().filter(|z| !z.is_finite()).count() as u64;
     Ok(())
 }
 

@@ -23,19 +23,26 @@ use random::Random;
 struct Run {
     random: Random,
     counts: Counts,
+    lattices: u64,
     // lines of the Rust alone, their cells as long as T allows
     near: norm::Departures,
 }
 
 impl Run {
-    // One input; what departs is made small and told.
+    // A lattice.
     fn one(&mut self, part: &str, c: &Case) -> Result<(), String> {
+        self.lattices += 1;
+        self.again(part, c)
+    }
+
+    // One input, perhaps of a lattice met before, with another `coarsest`; what departs is made small and told.
+    fn again(&mut self, part: &str, c: &Case) -> Result<(), String> {
         if compare(c, &mut self.counts).is_ok() {
             return Ok(());
         }
         let small = shrink::smallest(c);
         let what = compare(&small, &mut Counts::default()).err().unwrap_or_default();
-        Err(format!("{part}, lattice {}: {what}\nthe smallest input found:\n{}", self.counts.lattices, small.text()))
+        Err(format!("{part}, lattice {}: {what}\nthe smallest input found:\n{}", self.lattices, small.text()))
     }
 
     // Every lattice of 1 to 4 cells an axis and every mix of kinds: plain numbers with every `coarsest` that matters,
@@ -51,9 +58,9 @@ impl Run {
                 }
                 self.one("small lattices", &c)?;
                 c.rows = false;
-                for coarsest in 0..3 * c.total() + 2 {
+                for coarsest in 1..3 * c.total() + 2 {
                     c.coarsest = coarsest;
-                    self.one("small lattices", &c)?;
+                    self.again("small lattices", &c)?;
                 }
                 for _ in 0..16 {
                     let c = generate::filled(&mut self.random, cells, bloch);
@@ -161,9 +168,10 @@ impl Run {
                 if (n == 14 && answer != Some(12)) || (n == 15 && answer.is_some()) {
                     return Err(format!("{n} cells that double in length: {answer:?} levels"));
                 }
-                for coarsest in (0..3 * n + 2).step_by(if n > 16 { 7 } else { 1 }) {
+                self.one("deep lines", &c)?;
+                for coarsest in (1..3 * n + 2).step_by(if n > 16 { 7 } else { 1 }) {
                     c.coarsest = coarsest;
-                    self.one("deep lines", &c)?;
+                    self.again("deep lines", &c)?;
                 }
             }
         }
@@ -197,14 +205,14 @@ impl Run {
     }
 }
 
-fn report(c: &Counts, near: &norm::Departures) {
-    println!("lattices  {:>12}", c.lattices);
+fn report(lattices: u64, c: &Counts, near: &norm::Departures) {
+    println!("lattices  {lattices:>12}   with every `coarsest` tried {} inputs; {} in lists of other lengths too", c.inputs, c.other_lengths);
     println!("refusals  {:>12}   1: {}, 2: {}, 3: {}, 4: {}, 5: {}", c.refusals.iter().sum::<u64>(),
         c.refusals[1], c.refusals[2], c.refusals[3], c.refusals[4], c.refusals[5]);
     println!("levels    {:>12}", c.levels);
     println!("lines     {:>12}", c.lines);
     println!("maps      {:>12}", c.maps);
-    println!("rows      {:>12}   {} of them collected too", c.rows, c.collected);
+    println!("rows      {:>12}   as pushed; {} collected", c.rows, c.collected);
     println!("numbers   {:>12}   {} of those in rows not finite", c.numbers, c.not_finite);
     departures("of the lines above", &c.norm);
     departures("of lines near the limit", near);
@@ -229,10 +237,10 @@ fn main() {
         let number = |k: usize, otherwise: u64| args.get(k).map_or(otherwise, |a| a.parse().expect("a number"));
         let (seed, lattices) = (number(0, 1), number(1, 100_000));
         println!("seed {seed}, {lattices} random lattices");
-        let mut run = Run { random: Random::new(seed), counts: Counts::default(), near: norm::Departures::default() };
+        let mut run = Run { random: Random::new(seed), counts: Counts::default(), lattices: 0, near: norm::Departures::default() };
         let told = run.all(lattices as usize);
         if told.is_ok() {
-            report(&run.counts, &run.near);
+            report(run.lattices, &run.counts, &run.near);
             println!("everything equal");
         }
         told

@@ -11,7 +11,6 @@ use Rattle.lattice.specs.Grid.{Limits}
 use Rattle.lattice.specs.Lattice.{Lengths}
 use Rattle.lattice.proofs.GridLaws.{n-most}
 use Rattle.lattice.proofs.CheckLaws.{passed, stretches-sound}
-use Rattle.lattice.proofs.LevelLaws.{lattice-limits}
 use Rattle.lattice_c.proofs.RowsLaid.{stretches-told, maps-none, maps-all}
 use Rattle.lattice_c.proofs.lattice_maps.Statement.{statement}
 use Rattle.lattice_c.proofs.lattice_maps.Tie as tie
@@ -25,7 +24,7 @@ fine c =
     (passed (c .before .before .check-stretches .ensures) (c .before .is-sound .ensures) (not-false _ (c .if2 .left)))
 
 most : (c : tie.After-n) → c .n .result ≤ 64
-most c = omega (arith, c .n .ensures, n-most (fine (c .before .before .before .before .before .before .before .before .before .before .before .before .before) .0) (c .before .before .before .before .before .before .before .before .before .before .before .before .before .before .before .before .before .before .before .before .before .before .before .before .before .before .before .before .args .axis))
+most c = omega (arith, c .n .ensures, n-most (fine (c .before .before .before .before .before .before .before .before .before .before .before .before .before .before) .0) (c .before .before .before .before .before .before .before .before .before .before .before .before .before .before .before .before .before .before .before .before .before .before .before .before .before .before .before .before .before .args .axis))
 
 returns : tie.Need-returns
 returns c =
@@ -47,11 +46,14 @@ returns-2 c =
     (and-true _ _ (lt-ltb (c .before .before .before .before .before .before .before .before .before .before .before .before .before .before .before .args .axis) 3 (omega arith))
     ∙ stretches-told _ _ _ _ _ _ (c .before .before .before .input .ensures) (c .before .before .check-stretches .ensures) (c .before .is-sound .ensures) (not-true _ (c .if2 .taken)))
 
-new-requires : tie.Need-new-requires
-new-requires c κs = (fine c .1, fine c .2)
+stretches-requires : tie.Need-stretches-requires
+stretches-requires c κs = (fine c .1, fine c .2)
 
-new-requires-2 : tie.Need-new-requires-2
-new-requires-2 c κs = (lattice-limits (c .before .before .before .before .input .result) _ _ _ _ _ _ (c .new .ensures) (fine (c .before) .0), omega arith)
+slice-aggregate-new : tie.Need-slice-aggregate-new
+slice-aggregate-new c = search needs
+
+new-requires : tie.Need-new-requires
+new-requires c κs = (fine (c .before .before) .0, omega arith)
 
 put-numbers-requires : tie.Need-put-numbers-requires
 put-numbers-requires c κs = search needs
@@ -76,11 +78,11 @@ same-length-2 c = search needs
 
 returns-3 : tie.Need-returns-3
 returns-3 c =
-    maps-all _ _ _ _ _ _ (c .before .before .before .before .before .before .before .before .before .before .before .before .before .before .before .before .input .ensures)
-    (and-true _ _ (lt-ltb (c .before .before .before .before .before .before .before .before .before .before .before .before .before .before .before .before .before .before .before .before .before .before .before .before .before .before .before .before .args .axis) 3 (omega arith))
-    ∙ stretches-told _ _ _ _ _ _ (c .before .before .before .before .before .before .before .before .before .before .before .before .before .before .before .before .input .ensures) (c .before .before .before .before .before .before .before .before .before .before .before .before .before .before .before .check-stretches .ensures) (c .before .before .before .before .before .before .before .before .before .before .before .before .before .before .is-sound .ensures) (not-false _ (c .before .before .before .before .before .before .before .before .before .before .before .before .before .if2 .left)))
-    (c .before .before .before .before .before .before .before .before .before .before .before .before .new .ensures)
-    (c .before .before .before .before .before .before .before .before .before .before .before .new2 .ensures)
+    maps-all _ _ _ _ _ _ (c .before .before .before .before .before .before .before .before .before .before .before .before .before .before .before .before .before .input .ensures)
+    (and-true _ _ (lt-ltb (c .before .before .before .before .before .before .before .before .before .before .before .before .before .before .before .before .before .before .before .before .before .before .before .before .before .before .before .before .before .args .axis) 3 (omega arith))
+    ∙ stretches-told _ _ _ _ _ _ (c .before .before .before .before .before .before .before .before .before .before .before .before .before .before .before .before .before .input .ensures) (c .before .before .before .before .before .before .before .before .before .before .before .before .before .before .before .before .check-stretches .ensures) (c .before .before .before .before .before .before .before .before .before .before .before .before .before .before .before .is-sound .ensures) (not-false _ (c .before .before .before .before .before .before .before .before .before .before .before .before .before .before .if2 .left)))
+    (c .before .before .before .before .before .before .before .before .before .before .before .before .before .stretches .ensures .1)
+    (c .before .before .before .before .before .before .before .before .before .before .before .new .ensures)
     (c .before .before .before .before .before .before .before .put-numbers .ensures)
     (c .before .before .before .put-numbers2 .ensures)
     (c .n .ensures)
@@ -94,8 +96,9 @@ lattice-maps-spec =
     check-stretches-requires
     is-sound-requires
     returns-2
+    stretches-requires
+    slice-aggregate-new
     new-requires
-    new-requires-2
     put-numbers-requires
     put-numbers-requires-2
     n-requires

@@ -1,3 +1,4 @@
+use native.Mathlib.Omega.{arith}
 -- `lattice_c::lattice_rows` meets its contract: a sound input gives what the lattice and its rows require.
 -- Assumes nothing.
 use Prim.Native.Nat.{_*_}
@@ -9,7 +10,7 @@ use lib.ListN.{length}
 use Rattle.lattice.specs.Grid.{unknownsOf, Limits}
 use Rattle.lattice.specs.Lattice.{Lengths}
 use Rattle.lattice.proofs.CheckLaws.{passed}
-use Rattle.lattice_c.proofs.RowsLaid.{all-told, all-sound, rows-asked, rows-none, rows-all}
+use Rattle.lattice_c.proofs.RowsLaid.{all-told, all-sound, rows-none, rows-all}
 use Rattle.lattice_c.proofs.lattice_rows.Statement.{statement}
 use Rattle.lattice_c.proofs.lattice_rows.Tie as tie
 
@@ -36,16 +37,19 @@ is-sound-requires c κs = search needs
 returns : tie.Need-returns
 returns c = rows-none (all-told _ _ _ _ _ _ (c .before .before .before .input .ensures) _ (c .before .before .check .ensures) (c .before .is-sound .ensures) (not-true _ (c .if1 .taken)))
 
-new-requires : tie.Need-new-requires
-new-requires c κs = (fine c .1, fine c .2)
+stretches-requires : tie.Need-stretches-requires
+stretches-requires c κs = (fine c .1, fine c .2)
+
+slice-aggregate-put-rows : tie.Need-slice-aggregate-put-rows
+slice-aggregate-put-rows c = search needs
 
 unknowns-requires : tie.Need-unknowns-requires
-unknowns-requires c κs = fine (c .before) .0
+unknowns-requires c κs = fine (c .before .before) .0
 
 put-rows-requires : tie.Need-put-rows-requires
 put-rows-requires c κs =
-    let f = fine (c .before .before .before .before .before) in
-    rows-asked (c .before .before .before .before .before .before .before .before .input .result) _ _ _ _ _ _ (c .before .before .before .before .new .ensures) (c .before .before .before .unknowns .ensures) (f .0) (f .3)
+    let f = fine (c .before .before .before .before .before .before) in
+    (f .0, (c .before .before .before .unknowns .ensures, omega (arith, f .3)))
 
 same-length : tie.Need-same-length
 same-length c = search needs
@@ -58,9 +62,9 @@ same-length-3 c = search needs
 
 returns-2 : tie.Need-returns-2
 returns-2 c =
-    rows-all _ _ _ _ _ _ (c .before .before .before .before .before .before .before .before .before .before .before .before .before .before .before .input .ensures)
-    (all-told _ _ _ _ _ _ (c .before .before .before .before .before .before .before .before .before .before .before .before .before .before .before .input .ensures) _ (c .before .before .before .before .before .before .before .before .before .before .before .before .before .before .check .ensures) (c .before .before .before .before .before .before .before .before .before .before .before .before .before .is-sound .ensures) (not-false _ (c .before .before .before .before .before .before .before .before .before .before .before .before .if1 .left)))
-    (c .before .before .before .before .before .before .before .before .before .before .before .new .ensures)
+    rows-all _ _ _ _ _ _ (c .before .before .before .before .before .before .before .before .before .before .before .before .before .before .before .before .input .ensures)
+    (all-told _ _ _ _ _ _ (c .before .before .before .before .before .before .before .before .before .before .before .before .before .before .before .before .input .ensures) _ (c .before .before .before .before .before .before .before .before .before .before .before .before .before .before .before .check .ensures) (c .before .before .before .before .before .before .before .before .before .before .before .before .before .before .is-sound .ensures) (not-false _ (c .before .before .before .before .before .before .before .before .before .before .before .before .before .if1 .left)))
+    (c .before .before .before .before .before .before .before .before .before .before .before .before .stretches .ensures .1)
     (c .before .before .before .before .before .before .before .before .before .before .unknowns .ensures)
     (c .before .before .before .before .before .before .put-rows .ensures)
 
@@ -72,7 +76,8 @@ lattice-rows-spec =
     check-requires
     is-sound-requires
     returns
-    new-requires
+    stretches-requires
+    slice-aggregate-put-rows
     unknowns-requires
     put-rows-requires
     same-length

@@ -4,16 +4,17 @@ use Prim.Native.Nat.{_-_}
 use native.Mathlib.Omega.{arith}
 use borrow.Author.Needs.{needs}
 use Rattle.numbers.specs.Places.{numberAt}
+use Rattle.lattice.specs.Lattice.{medium}
 use Rattle.lattice.proofs.GridLaws.{unknowns-most}
 use Rattle.lattice_c.proofs.RowsLaid.{Filling, filling-start, filling-turn, filling-end}
 use Rattle.lattice_c.proofs.put_rows.Statement.{statement}
 use Rattle.lattice_c.proofs.put_rows.Tie as tie
 
 abbrev Inv-loop : tie.InvT-loop
-Inv-loop l n eps starts₀ columns₀ values₀ from₀ r₀ starts columns values from r = Filling l (numberAt eps) n starts₀ columns₀ values₀ starts columns values from r
+Inv-loop l st n eps starts₀ columns₀ values₀ from₀ r₀ starts columns values from r = Filling (medium l st) (numberAt eps) n starts₀ columns₀ values₀ starts columns values from r
 
 abbrev μ-loop : tie.MeasureT-loop
-μ-loop l n eps starts₀ columns₀ values₀ from₀ r₀ starts columns values from r = n - r
+μ-loop l st n eps starts₀ columns₀ values₀ from₀ r₀ starts columns values from r = n - r
 
 loop-holds : tie.Need-loop-holds Inv-loop μ-loop
 loop-holds c = filling-start
@@ -23,8 +24,8 @@ put-requires c κs = search needs
 
 put-row-requires : tie.Need-put-row-requires Inv-loop μ-loop
 put-row-requires c κs =
-    let limits = c .before .before .before .before .before .before .before .before .before .before .before .before .pre .0 in
-    (limits, (omega arith, (c .before .before .before .before .before .before .before .before .before .before .before .before .pre .1 .1, omega (arith, unknowns-most limits))))
+    let limits = c .before .before .before .before .before .before .before .before .before .before .before .before .before .pre .0 in
+    (limits, (omega arith, (c .before .before .before .before .before .before .before .before .before .before .before .before .before .pre .1 .1, omega (arith, unknowns-most limits))))
 
 add-r : tie.Need-add-r Inv-loop μ-loop
 add-r c = search needs

@@ -14,7 +14,7 @@ with-component-requires c κs = search needs
 
 neighbour-requires : tie.Need-neighbour-requires
 neighbour-requires c κs =
-    let p = c .before .before .before .before .pre in
+    let p = c .before .before .before .before .before .pre in
     (p .0, with-in (p .1 .0) (p .1 .1 .1 .0) (c .with-component .ensures))
 
 push-to-requires : tie.Need-push-to-requires
@@ -25,7 +25,7 @@ neg-requires c κs = search needs
 
 push-here-requires : tie.Need-push-here-requires
 push-here-requires c κs =
-    let p = c .before .before .before .before .before .before .before .before .before .before .before .before .before .before .before .pre in (
+    let p = c .before .before .before .before .before .before .before .before .before .before .before .before .before .before .before .before .pre in (
       p .0,
       (
         p .1 .0,

@@ -17,7 +17,7 @@ with-component-requires c κs = search needs
 
 neighbour-requires : tie.Need-neighbour-requires
 neighbour-requires c κs =
-    let p = c .before .before .before .before .before .before .before .before .before .before .before .pre in
+    let p = c .before .before .before .before .before .before .before .before .before .before .before .before .pre in
     (p .0, with-in (p .1 .0) (p .1 .1 .1 .0) (c .with-component .ensures))
 
 neg-requires : tie.Need-neg-requires
@@ -25,7 +25,7 @@ neg-requires c κs = search needs
 
 push-to-requires : tie.Need-push-to-requires
 push-to-requires c κs =
-    let p = c .before .before .before .before .before .before .before .before .before .before .before .before .before .before .before .pre in
+    let p = c .before .before .before .before .before .before .before .before .before .before .before .before .before .before .before .before .pre in
     omega (arith, wrote-most (c .before .before .before .before .before .before .before .before .before .push-here .ensures) (here-most _ _ _ _))
 
 same-length : tie.Need-same-length

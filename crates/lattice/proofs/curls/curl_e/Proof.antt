@@ -19,7 +19,7 @@ last-axis-requires c κs = search needs
 
 ahead-requires : tie.Need-ahead-requires
 ahead-requires c κs =
-    let p = c .before .before .before .before .before .before .before .pre in (
+    let p = c .before .before .before .before .before .before .before .before .pre in (
       p .0,
       (
         at-in (p .0) (p .1) (c .before .before .before .before .at .ensures),
@@ -29,7 +29,7 @@ ahead-requires c κs =
 
 ahead-requires-2 : tie.Need-ahead-requires-2
 ahead-requires-2 c κs =
-    let p = c .before .before .before .before .before .before .before .before .before .before .before .before .before .before .pre in (
+    let p = c .before .before .before .before .before .before .before .before .before .before .before .before .before .before .before .pre in (
       p .0,
       (
         at-in (p .0) (p .1) (c .before .before .before .before .before .before .before .before .before .before .before .at .ensures),

@@ -19,7 +19,7 @@ last-axis-requires c κs = search needs
 
 behind-requires : tie.Need-behind-requires
 behind-requires c κs =
-    let p = c .before .before .before .before .before .before .before .pre in (
+    let p = c .before .before .before .before .before .before .before .before .pre in (
       p .0,
       (
         at-in (p .0) (p .1) (c .before .before .before .before .at .ensures),
@@ -29,7 +29,7 @@ behind-requires c κs =
 
 behind-requires-2 : tie.Need-behind-requires-2
 behind-requires-2 c κs =
-    let p = c .before .before .before .before .before .before .before .before .before .before .before .before .before .before .pre in (
+    let p = c .before .before .before .before .before .before .before .before .before .before .before .before .before .before .before .pre in (
       p .0,
       (
         at-in (p .0) (p .1) (c .before .before .before .before .before .before .before .before .before .before .before .at .ensures),

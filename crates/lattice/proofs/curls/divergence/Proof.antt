@@ -11,12 +11,12 @@ at-requires c κs = search needs
 
 behind-requires : tie.Need-behind-requires
 behind-requires c κs =
-    let p = c .before .before .before .before .before .pre in
+    let p = c .before .before .before .before .before .before .pre in
     (p .0, (at-in (p .0) (p .1) (c .before .before .at .ensures), (omega arith, (omega arith, omega arith))))
 
 behind-requires-2 : tie.Need-behind-requires-2
 behind-requires-2 c κs =
-    let p = c .before .before .before .before .before .before .before .before .before .before .before .before .pre in (
+    let p = c .before .before .before .before .before .before .before .before .before .before .before .before .before .pre in (
       p .0,
       (
         at-in (p .0) (p .1) (c .before .before .before .before .before .before .before .before .before .at .ensures),
@@ -26,7 +26,7 @@ behind-requires-2 c κs =
 
 behind-requires-3 : tie.Need-behind-requires-3
 behind-requires-3 c κs =
-    let p = c .before .before .before .before .before .before .before .before .before .before .before .before .before .before .before .before .before .before .before .pre in (
+    let p = c .before .before .before .before .before .before .before .before .before .before .before .before .before .before .before .before .before .before .before .before .pre in (
       p .0,
       (
         at-in (p .0) (p .1) (c .before .before .before .before .before .before .before .before .before .before .before .before .before .before .before .before .at .ensures),

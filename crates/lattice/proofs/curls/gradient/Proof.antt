@@ -11,7 +11,7 @@ at-requires c κs = search needs
 
 half-weight-requires : tie.Need-half-weight-requires
 half-weight-requires c κs =
-    let p = c .before .before .before .pre in
+    let p = c .before .before .before .before .pre in
     let i = at-in (p .0) (p .1) (c .at .ensures) in
     (p .0, (i, i .c-in))
 
@@ -20,7 +20,7 @@ with-component-requires c κs = search needs
 
 neighbour-requires : tie.Need-neighbour-requires
 neighbour-requires c κs =
-    let p = c .before .before .before .before .before .pre in
+    let p = c .before .before .before .before .before .before .pre in
     (p .0, with-in (at-in (p .0) (p .1) (c .before .before .at .ensures)) (omega arith) (c .with-component .ensures))
 
 push-free-node-requires : tie.Need-push-free-node-requires
@@ -31,7 +31,7 @@ neg-requires c κs = search needs
 
 push-free-here-requires : tie.Need-push-free-here-requires
 push-free-here-requires c κs =
-    let p = c .before .before .before .before .before .before .before .before .before .before .before .before .before .before .before .before .pre in (
+    let p = c .before .before .before .before .before .before .before .before .before .before .before .before .before .before .before .before .before .pre in (
       p .0,
       (
         at-in (p .0) (p .1) (c .before .before .before .before .before .before .before .before .before .before .before .before .before .at .ensures),

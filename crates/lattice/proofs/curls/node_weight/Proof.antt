@@ -10,8 +10,8 @@ place-on-requires c κs = search needs
 
 node-requires : tie.Need-node-requires
 node-requires c κs =
-    let p = c .before .pre in
-    (p .1 .1, omega (arith, c .place-on .ensures, place-inside (p .1 .0) (c .before .args .axis), n-most (p .0) (c .before .args .axis)))
+    let p = c .before .before .pre in
+    (p .1 .1, omega (arith, c .place-on .ensures, place-inside (p .1 .0) (c .before .before .args .axis), n-most (p .0) (c .before .before .args .axis)))
 
 step-requires : tie.Need-step-requires
 step-requires c κs = search needs

@@ -11,7 +11,7 @@ with-component-requires c κs = search needs
 
 index-requires : tie.Need-index-requires
 index-requires c κs =
-    let p = c .before .before .before .pre in
+    let p = c .before .before .before .before .pre in
     (p .0, with-in (p .1 .0) (omega arith) (c .with-component .ensures))
 
 node-fixed-requires : tie.Need-node-fixed-requires

@@ -9,7 +9,7 @@ with-component-requires c κs = search needs
 
 index-requires : tie.Need-index-requires
 index-requires c κs =
-    let p = c .before .before .before .pre in
+    let p = c .before .before .before .before .pre in
     (p .0, with-in (p .1 .0) (p .1 .1 .0) (c .with-component .ensures))
 
 push-requires : tie.Need-push-requires

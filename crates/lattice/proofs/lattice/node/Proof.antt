@@ -1,24 +1,20 @@
-use mathlib.Core.Path.{refl}
-use Rattle.lattice.specs.Lattice.{nodesAt}
+use mathlib.Core.Path.{_∙_}
+use Rattle.lattice.proofs.LatticeLaws.{node-is}
 use borrow.Author.Needs.{needs}
 use Rattle.lattice.proofs.lattice.node.Statement.{statement}
 use Rattle.lattice.proofs.lattice.node.Tie as tie
 
-mul-k : tie.Need-mul-k
-mul-k c = search needs
+mul-stretch-at : tie.Need-mul-stretch-at
+mul-stretch-at c = search needs
 
-add-k : tie.Need-add-k
-add-k c = search needs
+add-stretch-at : tie.Need-add-stretch-at
+add-stretch-at c = search needs
 
-mul-result : tie.Need-mul-result
-mul-result c = search needs
-
-element-copy-out-result : tie.Need-element-copy-out-result
-element-copy-out-result c = search needs
+stretch-at-requires : tie.Need-stretch-at-requires
+stretch-at-requires c κs = search needs
 
 returns : tie.Need-returns
-unfolding nodesAt
-returns c = refl
+returns c = c .stretch-at .ensures ∙ node-is _ _ _ _ (c .before .before .pre .0) (c .before .before .pre .1)
 
 pub node-spec : {M : Type 1} → statement M
-node-spec = tie.close (tie.spec mul-k add-k mul-result element-copy-out-result returns)
+node-spec = tie.close (tie.spec mul-stretch-at add-stretch-at stretch-at-requires returns)

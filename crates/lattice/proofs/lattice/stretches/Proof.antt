@@ -1,63 +1,35 @@
--- `lattice::lattice::stretches` meets its contract. The invariant: the places before q have their stretch, the others zero.
--- Assumes nothing.
-use Prim.Native.Nat.{_≤_, _-_}
-use mathlib.Core.Path.{_≡_}
-use native.Mathlib.Omega.{arith}
+use lib.Ieee.{binary64, ofBits}
+use lib.ListN.{length-replicate}
+use denote.Ref.{now}
+use Rattle.lattice.proofs.LatticeLaws.{medium-is}
 use borrow.Author.Needs.{needs}
-use Rattle.numbers.specs.Complex.{zeroNumber, noNumber}
-use Rattle.lattice.specs.Lattice.{stretchAt}
-use Rattle.lattice.proofs.LatticeLaws.{filled-first}
-use Rattle.lattice.proofs.TabulateLaws.{Filled, filled-turn, filled-whole}
 use Rattle.lattice.proofs.lattice.stretches.Statement.{statement}
 use Rattle.lattice.proofs.lattice.stretches.Tie as tie
 
-abbrev Inv-loop : tie.InvT-loop
-Inv-loop g xs ys zs out₀ q₀ out q = (q ≤ 192) × Filled (stretchAt g xs ys zs) zeroNumber noNumber 192 q out
+slice-aggregate-lay-stretches : tie.Need-slice-aggregate-lay-stretches
+slice-aggregate-lay-stretches c = search needs
 
-abbrev μ-loop : tie.MeasureT-loop
-μ-loop g xs ys zs out₀ q₀ out q = 192 - q
+lay-stretches-requires : tie.Need-lay-stretches-requires
+lay-stretches-requires c κs = search needs
 
-zero-requires : tie.Need-zero-requires Inv-loop μ-loop
-zero-requires c κs = search needs
+slice-aggregate-lay-stretches-2 : tie.Need-slice-aggregate-lay-stretches-2
+slice-aggregate-lay-stretches-2 c = search needs
 
-loop-holds : tie.Need-loop-holds Inv-loop μ-loop
-loop-holds c = (omega arith, filled-first {n = 192} (c .zero .ensures))
+lay-stretches-requires-2 : tie.Need-lay-stretches-requires-2
+lay-stretches-requires-2 c κs = search needs
 
-stretch-requires : tie.Need-stretch-requires Inv-loop μ-loop
-stretch-requires c κs = search needs
-
-mul-out : tie.Need-mul-out Inv-loop μ-loop
-mul-out c = search needs
-
-array-set-from-out : tie.Need-array-set-from-out Inv-loop μ-loop
-array-set-from-out c = search needs
-
-add-q : tie.Need-add-q Inv-loop μ-loop
-add-q c = search needs
-
-loop-less : tie.Need-loop-less Inv-loop μ-loop
-loop-less c = search needs
-
-loop-again : tie.Need-loop-again Inv-loop μ-loop
-loop-again c = (omega arith, filled-turn (c .before .before .loop .inv .1) (omega arith) (c .stretch .ensures))
-
-returns : tie.Need-returns Inv-loop μ-loop
+returns : tie.Need-returns
 returns c =
-    let e : c .before .loop .q ≡ 192 = omega arith in
-    filled-whole (rw e at (c .before .loop .inv .1))
+    let a = c .before .before .before .before .before .before .before .before .before .before .before .before .args in
+    medium-is (a .v) (now (a .xn)) (now (a .xh)) (now (a .yn)) (now (a .yh)) (now (a .zn)) (now (a .zh)) (length-replicate 768 (ofBits binary64 0))
+    (c .before .before .before .before .lay-stretches .ensures) (c .before .lay-stretches2 .ensures)
 
 pub stretches-spec : {M : Type 1} → statement M
 stretches-spec =
     tie.close
     (tie.spec
-    Inv-loop
-    μ-loop
-    zero-requires
-    loop-holds
-    stretch-requires
-    mul-out
-    array-set-from-out
-    add-q
-    loop-less
-    loop-again
+    slice-aggregate-lay-stretches
+    lay-stretches-requires
+    slice-aggregate-lay-stretches-2
+    lay-stretches-requires-2
     returns)

@@ -1,3 +1,4 @@
+use denote.Ref.{now}
 -- `lattice::levels::join_lines` meets its contract. The invariant, for each lattice that has these maps and this finest level, since the loop
 -- itself does not hold the lattice: the level's lines are those of the definition, the levels before it are stored, and the depth is still to find.
 -- Assumes nothing.
@@ -7,7 +8,7 @@ use native.Mathlib.Omega.{arith}
 use borrow.Author.Needs.{needs}
 use lib.ListN.{length-set, length}
 use Rattle.lattice.specs.declared.levels.Three.{Three}
-use Rattle.lattice.specs.declared.lattice.Lattice.{Lattice}
+use Rattle.lattice.specs.Lattice.{medium, Medium}
 use Rattle.lattice.specs.Levels.{mapsOf, threeAt}
 use Rattle.lattice.specs.Line.{Held}
 use Rattle.lattice.specs.Grid.{Limits}
@@ -16,20 +17,20 @@ use Rattle.lattice.proofs.levels.join_lines.Statement.{statement}
 use Rattle.lattice.proofs.levels.join_lines.Tie as tie
 
 abbrev Inv-loop : tie.InvT-loop
-Inv-loop coarsest m none lines₀ t₀ level₀ lines t level =
+Inv-loop st coarsest m none lines₀ t₀ level₀ lines t level =
     (level ≤ 12)
     × (length lines ≡ 36)
-    × ((l : Lattice) → Limits (l .grid) → m ≡ mapsOf l → t₀ ≡ threeAt l 0 → Stored l coarsest level lines t)
+    × ((l : Medium) → Limits (l .grid) → m ≡ mapsOf l → t₀ ≡ threeAt l 0 → Stored l coarsest level lines t)
 
 abbrev μ-loop : tie.MeasureT-loop
-μ-loop coarsest m none lines₀ t₀ level₀ lines t level = 12 - level
+μ-loop st coarsest m none lines₀ t₀ level₀ lines t level = 12 - level
 
 -- the lattice's own case
-stored : (c : tie.At-loop Inv-loop μ-loop) → Stored (c .before .before .before .before .args .l) (c .before .before .before .before .args .coarsest) (c .loop .level) (c .loop .lines) (c .loop .t)
-stored c = c .loop .inv .2 (c .before .before .before .before .args .l) (c .before .before .before .before .pre) (c .before .before .before .across-maps .ensures) (c .before .finest .ensures)
+stored : (c : tie.At-loop Inv-loop μ-loop) → Stored ((medium (c .before .before .before .before .before .args .l) (now (c .before .before .before .before .before .args .st)))) (c .before .before .before .before .before .args .coarsest) (c .loop .level) (c .loop .lines) (c .loop .t)
+stored c = c .loop .inv .2 ((medium (c .before .before .before .before .before .args .l) (now (c .before .before .before .before .before .args .st)))) (c .before .before .before .before .before .pre) (c .before .before .before .across-maps .ensures) (c .before .finest .ensures)
 
 held : (c : tie.At-loop Inv-loop μ-loop) → Held (c .loop .t .x) × Held (c .loop .t .y) × Held (c .loop .t .z)
-held c = subst (λ (t : Three). Held (t .x) × Held (t .y) × Held (t .z)) (sym (stored c .here)) (three-held (c .before .before .before .before .args .l) (c .before .before .before .before .pre) (c .loop .level))
+held c = subst (λ (t : Three). Held (t .x) × Held (t .y) × Held (t .z)) (sym (stored c .here)) (three-held ((medium (c .before .before .before .before .before .args .l) (now (c .before .before .before .before .before .args .st)))) (c .before .before .before .before .before .pre) (c .loop .level))
 
 across-maps-requires : tie.Need-across-maps-requires Inv-loop μ-loop
 across-maps-requires c κs = search needs
@@ -79,8 +80,8 @@ array-set-from-lines-3 c = search needs
 edges-requires : tie.Need-edges-requires Inv-loop μ-loop
 edges-requires c κs = held (c .before .before .before .before)
 
-add-t22 : tie.Need-add-t22 Inv-loop μ-loop
-add-t22 c = search needs
+add-t23 : tie.Need-add-t23 Inv-loop μ-loop
+add-t23 c = search needs
 
 returns : tie.Need-returns Inv-loop μ-loop
 returns c = stored-few (stored (c .before .before .before .before .before .before)) (c .before .before .before .before .before .loop-test .taken) (c .before .edges .ensures) (c .if1 .taken)
@@ -94,12 +95,12 @@ coarser-requires c κs = held (c .before .before .before .before .before .before
 same-cells-requires : tie.Need-same-cells-requires Inv-loop μ-loop
 same-cells-requires c κs = search needs
 
-add-t27 : tie.Need-add-t27 Inv-loop μ-loop
-add-t27 c = search needs
+add-t28 : tie.Need-add-t28 Inv-loop μ-loop
+add-t28 c = search needs
 
 returns-2 : tie.Need-returns-2 Inv-loop μ-loop
 returns-2 c =
-    stored-same (stored (c .before .before .before .before .before .before .before .before .before .before)) (c .before .before .before .before .before .before .before .before .before .loop-test .taken) (c .before .before .before .before .before .before .before .before .before .before .before .before .before .before .pre) (c .before .before .before .before .before .before .before .before .before .before .before .before .before .across-maps .ensures)
+    stored-same (stored (c .before .before .before .before .before .before .before .before .before .before)) (c .before .before .before .before .before .before .before .before .before .loop-test .taken) (c .before .before .before .before .before .before .before .before .before .before .before .before .before .before .before .pre) (c .before .before .before .before .before .before .before .before .before .before .before .before .before .across-maps .ensures)
     (c .before .before .before .before .before .edges .ensures) (c .before .before .before .before .if1 .left) (c .before .before .before .target .ensures) (c .before .before .coarser .ensures) (c .before .same-cells .ensures) (c .if2 .taken)
 
 add-level : tie.Need-add-level Inv-loop μ-loop
@@ -142,12 +143,12 @@ join-lines-spec =
     mul-lines-6
     array-set-from-lines-3
     edges-requires
-    add-t22
+    add-t23
     returns
     target-requires
     coarser-requires
     same-cells-requires
-    add-t27
+    add-t28
     returns-2
     add-level
     loop-less

@@ -9,7 +9,7 @@ use Rattle.lattice.specs.Levels.{levelLinesOf, answerTo}
 use Rattle.lattice.specs.Grid.{Limits}
 use Rattle.lattice.specs.Lattice.{Lengths}
 use Rattle.lattice.specs.Check.{isSound}
-use Rattle.lattice.proofs.LevelLaws.{lattice-limits, found-refused, found-sound}
+use Rattle.lattice.proofs.LevelLaws.{found-refused, found-sound}
 use Rattle.lattice.proofs.CheckLaws.{stretches-sound}
 use Rattle.lattice.proofs.levels.levels.Statement.{statement}
 use Rattle.lattice.proofs.levels.levels.Tie as tie
@@ -38,11 +38,14 @@ unfolding levelLinesOf
 returns c =
     found-refused _ _ (c .before .before .before .check-stretches .ensures) (sym (c .before .before .is-sound .ensures) ∙ not-true _ (c .before .if1 .taken)) (c .no-line .ensures)
 
-new-requires : tie.Need-new-requires
-new-requires c κs = (fine c .1, fine c .2)
+stretches-requires : tie.Need-stretches-requires
+stretches-requires c κs = (fine c .1, fine c .2)
+
+slice-aggregate-join-lines : tie.Need-slice-aggregate-join-lines
+slice-aggregate-join-lines c = search needs
 
 join-lines-requires : tie.Need-join-lines-requires
-join-lines-requires c κs = lattice-limits (c .before .before .before .before .before .before .before .before .before .before .args .v) _ _ _ _ _ _ (c .new .ensures) (fine (c .before) .0)
+join-lines-requires c κs = fine (c .before .before) .0
 
 enum-known-depth : tie.Need-enum-known-depth
 enum-known-depth c = search needs
@@ -53,13 +56,13 @@ enum-told c = search needs
 returns-2 : tie.Need-returns-2
 unfolding levelLinesOf
 returns-2 c =
-    found-sound _ (c .before .before .before .before .join-lines .result) (c .before .before .before .before .before .before .before .before .check-stretches .ensures) (sound (c .before .before .before .before .before .before)) (c .before .before .before .before .before .new .ensures) (c .before .before .before .before .join-lines .ensures)
+    found-sound _ (c .before .before .before .before .join-lines .result) (c .before .before .before .before .before .before .before .before .before .check-stretches .ensures) (sound (c .before .before .before .before .before .before .before)) (c .before .before .before .before .before .before .stretches .ensures .1) (c .before .before .before .before .join-lines .ensures)
     (sym (ap answerTo (c .before .depth .given .1)))
 
 returns-3 : tie.Need-returns-3
 unfolding levelLinesOf
 returns-3 c =
-    found-sound _ (c .before .before .before .join-lines .result) (c .before .before .before .before .before .before .before .check-stretches .ensures) (sound (c .before .before .before .before .before)) (c .before .before .before .before .new .ensures) (c .before .before .before .join-lines .ensures)
+    found-sound _ (c .before .before .before .join-lines .result) (c .before .before .before .before .before .before .before .before .check-stretches .ensures) (sound (c .before .before .before .before .before .before)) (c .before .before .before .before .before .stretches .ensures .1) (c .before .before .before .join-lines .ensures)
     (sym (ap answerTo (c .enum-told .given .1)))
 
 pub levels-spec : {M : Type 1} → statement M
@@ -70,7 +73,8 @@ levels-spec =
     is-sound-requires
     no-line-requires
     returns
-    new-requires
+    stretches-requires
+    slice-aggregate-join-lines
     join-lines-requires
     enum-known-depth
     enum-told

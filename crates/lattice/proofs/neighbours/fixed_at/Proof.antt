@@ -1,3 +1,5 @@
+use denote.Ref.{now}
+use Rattle.lattice.specs.Lattice.{medium}
 use mathlib.Core.Path.{_≡_, refl}
 use mathlib.Core.Bool.{not, _&&_}
 use lib.Dec.{eqb}
@@ -8,18 +10,9 @@ use borrow.Author.Needs.{needs}
 use Rattle.lattice.proofs.neighbours.fixed_at.Statement.{statement}
 use Rattle.lattice.proofs.neighbours.fixed_at.Tie as tie
 
-on-wall-requires : tie.Need-on-wall-requires
-on-wall-requires c κs = search needs
-
-on-wall-requires-2 : tie.Need-on-wall-requires-2
-on-wall-requires-2 c κs = search needs
-
-on-wall-requires-3 : tie.Need-on-wall-requires-3
-on-wall-requires-3 c κs = search needs
-
 -- the tests of the first two axes
 first-side : (c : tie.Joined1)
-    → c .if1 .if2 ≡ (not (eqb 0 (c .before .args .p .component)) && onWall (c .before .args .l) (c .before .args .p) 0)
+    → c .if1 .if2 ≡ (not (eqb 0 (c .before .before .args .p .component)) && onWall ((medium (c .before .before .args .l) (now (c .before .before .args .st)))) (c .before .before .args .p) 0)
 first-side c =
     ⊎-elim
     (λ w. other-axis _ _ (w .0 .taken) (w .1 .ensures) (w .2))
@@ -28,13 +21,22 @@ first-side c =
 
 second-side : (c : tie.Joined3)
     → c .if3 .if4
-    ≡ (not (eqb 1 (c .before .before .before .args .p .component))
-    && onWall (c .before .before .before .args .l) (c .before .before .before .args .p) 1)
+    ≡ (not (eqb 1 (c .before .before .before .before .args .p .component))
+    && onWall ((medium (c .before .before .before .before .args .l) (now (c .before .before .before .before .args .st)))) (c .before .before .before .before .args .p) 1)
 second-side c =
     ⊎-elim
     (λ w. other-axis _ _ (w .0 .taken) (w .1 .ensures) (w .2))
     (λ w. own-axis _ _ _ (w .0 .left) (w .1))
     (c .if3 .came)
+
+on-wall-requires : tie.Need-on-wall-requires
+on-wall-requires c κs = search needs
+
+on-wall-requires-2 : tie.Need-on-wall-requires-2
+on-wall-requires-2 c κs = search needs
+
+on-wall-requires-3 : tie.Need-on-wall-requires-3
+on-wall-requires-3 c κs = search needs
 
 returns : tie.Need-returns
 unfolding fixedAt

@@ -20,7 +20,7 @@ place-on-requires c κs = search needs
 shift-requires : tie.Need-shift-requires
 shift-requires c κs =
     rw (c .place-on .ensures, c .before .n .ensures)
-    (place-inside (c .before .before .before .pre .1) (c .before .before .before .args .axis))
+    (place-inside (c .before .before .before .before .pre .1) (c .before .before .before .before .args .axis))
 
 enum-told : tie.Need-enum-told
 enum-told c = search needs
@@ -33,10 +33,10 @@ moved-to-requires c κs = search needs
 
 index-requires : tie.Need-index-requires
 index-requires c κs = (
-  c .before .before .before .before .before .before .before .before .pre .0,
+  c .before .before .before .before .before .before .before .before .before .pre .0,
   rw (c .moved-to .ensures)
       (step-inside _ _ _
-      (c .before .before .before .before .before .before .before .before .pre .1)
+      (c .before .before .before .before .before .before .before .before .before .pre .1)
       (c .before .before .before .before .before .before .n .ensures)
       (c .before .before .before .before .before .place-on .ensures)
       (c .before .before .before .before .shift .ensures)
@@ -55,7 +55,7 @@ returns c =
 returns-2 : tie.Need-returns-2
 returns-2 c =
     ap (λ q. To q (c .before .before .before .m .given .0 .1 .0))
-    (c .index .ensures ∙ ap (indexOf (c .before .before .before .before .before .before .before .before .before .args .l .grid)) (c .before .moved-to .ensures))
+    (c .index .ensures ∙ ap (indexOf (c .before .before .before .before .before .before .before .before .before .before .args .l .grid)) (c .before .moved-to .ensures))
     ∙ sym (ap (arrived _ _ _) (c .before .before .before .m .given .1))
     ∙ neighbour-is _ _ _ _
     (c .before .before .before .before .before .before .before .before .edges-on .ensures)

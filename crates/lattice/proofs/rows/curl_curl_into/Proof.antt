@@ -23,7 +23,7 @@ slice-aggregate-push-faces-2 c = search needs
 
 push-faces-requires : tie.Need-push-faces-requires
 push-faces-requires c κs =
-    let p = c .before .before .before .before .before .before .before .before .before .before .before .pre in
+    let p = c .before .before .before .before .before .before .before .before .before .before .before .before .pre in
     let e = read-back 4 (c .before .before .before .before .before .before .curl-h .ensures) (curl-h-most _ _) (omega arith) (omega arith) in
     (p .0, ((e .columns-room, e .numbers-room), (low-below e (low-curl-h _ (p .0) _ (p .1 .0)), omega (arith, e .most))))
 

@@ -23,7 +23,7 @@ slice-aggregate-push-face-terms-2 c = search needs
 
 push-face-terms-requires : tie.Need-push-face-terms-requires
 push-face-terms-requires c κs =
-    let p = c .before .before .before .before .before .before .before .before .before .before .before .pre in
+    let p = c .before .before .before .before .before .before .before .before .before .before .before .before .pre in
     let e = read-back 4 (c .before .before .before .before .before .before .curl-e .ensures) (curl-e-most _ _) (omega arith) (omega arith) in
     (p .0, ((e .columns-room, e .numbers-room), omega (arith, e .most)))
 

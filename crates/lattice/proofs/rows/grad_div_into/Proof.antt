@@ -23,7 +23,7 @@ slice-aggregate-push-nodes-2 c = search needs
 
 push-nodes-requires : tie.Need-push-nodes-requires
 push-nodes-requires c κs =
-    let p = c .before .before .before .before .before .before .before .before .before .before .before .before .pre in
+    let p = c .before .before .before .before .before .before .before .before .before .before .before .before .before .pre in
     let e = read-back 2 (c .before .before .before .before .before .before .gradient .ensures) (gradient-most _ _) (omega arith) (omega arith) in
     (p .0, ((e .columns-room, e .numbers-room), (low-below e (low-gradient _ (p .0) _ (p .1 .0)), (p .1 .1 .0, omega (arith, e .most)))))
 

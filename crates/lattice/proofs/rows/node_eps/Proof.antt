@@ -20,7 +20,7 @@ slice-aggregate-mean-free c = search needs
 
 mean-free-requires : tie.Need-mean-free-requires
 mean-free-requires c κs =
-    let p = c .before .before .before .before .before .before .before .pre in
+    let p = c .before .before .before .before .before .before .before .before .pre in
     let e = read-back 6 (c .before .before .before .divergence .ensures) (divergence-most _ _) (omega arith) (omega arith) in
     (p .0, ((e .columns-room, omega (arith, e .most)), (low-below e (low-divergence _ (p .0) _ (p .1 .0)), p .1 .1)))
 

@@ -1,3 +1,4 @@
+use Rattle.lattice.specs.Lattice.{medium}
 use Prim.Native.Nat.{_-_}
 use native.Mathlib.Omega.{arith}
 use borrow.Author.Needs.{needs}
@@ -8,10 +9,10 @@ use Rattle.lattice.proofs.rows.push_face_terms.Statement.{statement}
 use Rattle.lattice.proofs.rows.push_face_terms.Tie as tie
 
 abbrev Inv-loop : tie.InvT-loop
-Inv-loop l wh n cs xs from columns₀ values₀ k₀ m₀ columns values k m = Laying (faceTerm l wh) cs xs n from columns₀ values₀ columns values k m
+Inv-loop l st wh n cs xs from columns₀ values₀ k₀ m₀ columns values k m = Laying (faceTerm (medium l st) wh) cs xs n from columns₀ values₀ columns values k m
 
 abbrev μ-loop : tie.MeasureT-loop
-μ-loop l wh n cs xs from columns₀ values₀ k₀ m₀ columns values k m = n - m
+μ-loop l st wh n cs xs from columns₀ values₀ k₀ m₀ columns values k m = n - m
 
 loop-holds : tie.Need-loop-holds Inv-loop μ-loop
 loop-holds c = laying-start
@@ -27,7 +28,7 @@ get-requires c κs = search needs
 
 push-face-term-requires : tie.Need-push-face-term-requires Inv-loop μ-loop
 push-face-term-requires c κs =
-    let p = c .before .before .before .before .before .before .before .before .before .before .pre in
+    let p = c .before .before .before .before .before .before .before .before .before .before .before .pre in
     (p .0, omega (arith, laying-most (c .before .before .before .before .before .loop .inv) (face-term-most _ _)))
 
 add-m : tie.Need-add-m Inv-loop μ-loop

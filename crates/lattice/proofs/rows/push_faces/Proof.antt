@@ -1,3 +1,4 @@
+use Rattle.lattice.specs.Lattice.{medium}
 use Prim.Native.Nat.{_-_}
 use native.Mathlib.Omega.{arith}
 use borrow.Author.Needs.{needs}
@@ -8,10 +9,10 @@ use Rattle.lattice.proofs.rows.push_faces.Statement.{statement}
 use Rattle.lattice.proofs.rows.push_faces.Tie as tie
 
 abbrev Inv-loop : tie.InvT-loop
-Inv-loop l n cs xs from columns₀ values₀ k₀ m₀ columns values k m = Laying (faceTerms l) cs xs n from columns₀ values₀ columns values k m
+Inv-loop l st n cs xs from columns₀ values₀ k₀ m₀ columns values k m = Laying (faceTerms (medium l st)) cs xs n from columns₀ values₀ columns values k m
 
 abbrev μ-loop : tie.MeasureT-loop
-μ-loop l n cs xs from columns₀ values₀ k₀ m₀ columns values k m = n - m
+μ-loop l st n cs xs from columns₀ values₀ k₀ m₀ columns values k m = n - m
 
 loop-holds : tie.Need-loop-holds Inv-loop μ-loop
 loop-holds c = laying-start
@@ -27,7 +28,7 @@ get-requires c κs = search needs
 
 face-terms-requires : tie.Need-face-terms-requires Inv-loop μ-loop
 face-terms-requires c κs =
-    let p = c .before .before .before .before .before .before .before .before .before .before .pre in (
+    let p = c .before .before .before .before .before .before .before .before .before .before .before .pre in (
       p .0,
       (
         p .1 .1 .0 .low _ (c .before .before .before .before .loop-test .taken),

@@ -1,3 +1,4 @@
+use Rattle.lattice.specs.Lattice.{medium}
 use Prim.Native.Nat.{_-_}
 use native.Mathlib.Omega.{arith}
 use borrow.Author.Needs.{needs}
@@ -9,10 +10,10 @@ use Rattle.lattice.proofs.rows.push_node_terms.Statement.{statement}
 use Rattle.lattice.proofs.rows.push_node_terms.Tie as tie
 
 abbrev Inv-loop : tie.InvT-loop
-Inv-loop l eps wg inverse n cs xs from columns₀ values₀ k₀ m₀ columns values k m = Laying (nodeTerm l (numberAt eps) wg inverse) cs xs n from columns₀ values₀ columns values k m
+Inv-loop l st eps wg inverse n cs xs from columns₀ values₀ k₀ m₀ columns values k m = Laying (nodeTerm (medium l st) (numberAt eps) wg inverse) cs xs n from columns₀ values₀ columns values k m
 
 abbrev μ-loop : tie.MeasureT-loop
-μ-loop l eps wg inverse n cs xs from columns₀ values₀ k₀ m₀ columns values k m = n - m
+μ-loop l st eps wg inverse n cs xs from columns₀ values₀ k₀ m₀ columns values k m = n - m
 
 loop-holds : tie.Need-loop-holds Inv-loop μ-loop
 loop-holds c = laying-start
@@ -28,7 +29,7 @@ get-requires c κs = search needs
 
 push-node-term-requires : tie.Need-push-node-term-requires Inv-loop μ-loop
 push-node-term-requires c κs =
-    let p = c .before .before .before .before .before .before .before .before .before .before .before .pre in (
+    let p = c .before .before .before .before .before .before .before .before .before .before .before .before .pre in (
       p .0,
       (
         omega (arith, p .1 .1 .0 .low (c .before .before .before .before .before .loop .m) (c .before .before .before .before .loop-test .taken)),

@@ -1,3 +1,4 @@
+use Rattle.lattice.specs.Lattice.{medium}
 use Prim.Native.Nat.{_-_}
 use native.Mathlib.Omega.{arith}
 use borrow.Author.Needs.{needs}
@@ -9,10 +10,10 @@ use Rattle.lattice.proofs.rows.push_nodes.Statement.{statement}
 use Rattle.lattice.proofs.rows.push_nodes.Tie as tie
 
 abbrev Inv-loop : tie.InvT-loop
-Inv-loop l eps n cs xs from columns₀ values₀ k₀ m₀ columns values k m = Laying (nodeTerms l (numberAt eps)) cs xs n from columns₀ values₀ columns values k m
+Inv-loop l st eps n cs xs from columns₀ values₀ k₀ m₀ columns values k m = Laying (nodeTerms (medium l st) (numberAt eps)) cs xs n from columns₀ values₀ columns values k m
 
 abbrev μ-loop : tie.MeasureT-loop
-μ-loop l eps n cs xs from columns₀ values₀ k₀ m₀ columns values k m = n - m
+μ-loop l st eps n cs xs from columns₀ values₀ k₀ m₀ columns values k m = n - m
 
 loop-holds : tie.Need-loop-holds Inv-loop μ-loop
 loop-holds c = laying-start
@@ -28,7 +29,7 @@ get-requires c κs = search needs
 
 node-terms-requires : tie.Need-node-terms-requires Inv-loop μ-loop
 node-terms-requires c κs =
-    let p = c .before .before .before .before .before .before .before .before .before .before .before .pre in (
+    let p = c .before .before .before .before .before .before .before .before .before .before .before .before .pre in (
       p .0,
       (
         p .1 .1 .0 .low _ (c .before .before .before .before .loop-test .taken),

@@ -45,7 +45,7 @@ curl-curl-into-requires c κs = search needs
 grad-div-into-requires : tie.Need-grad-div-into-requires
 grad-div-into-requires c κs =
     let p =
-    c .before .before .before .before .before .before .before .before .before .before .before .before .before .before .before .before .before .before .before .before .before .before .before .before .pre in (
+    c .before .before .before .before .before .before .before .before .before .before .before .before .before .before .before .before .before .before .before .before .before .before .before .before .before .pre in (
       p .0,
       (
         p .1 .0,

@@ -1,3 +1,4 @@
+use Rattle.lattice.specs.Lattice.{medium}
 use Prim.Native.Nat.{_-_}
 use mathlib.Core.Path.{sym, _∙_}
 use mathlib.Core.Logic.{⊎-elim}
@@ -10,10 +11,10 @@ use Rattle.lattice.proofs.rows.sum_free.Statement.{statement}
 use Rattle.lattice.proofs.rows.sum_free.Tie as tie
 
 abbrev Inv-loop : tie.InvT-loop
-Inv-loop l eps n cs total₀ count₀ m₀ total count m = Summing l (numberAt eps) cs n total count m
+Inv-loop l st eps n cs total₀ count₀ m₀ total count m = Summing (medium l st) (numberAt eps) cs n total count m
 
 abbrev μ-loop : tie.MeasureT-loop
-μ-loop l eps n cs total₀ count₀ m₀ total count m = n - m
+μ-loop l st eps n cs total₀ count₀ m₀ total count m = n - m
 
 zero-requires : tie.Need-zero-requires Inv-loop μ-loop
 zero-requires c κs = search needs
@@ -32,7 +33,7 @@ fixed-requires c κs = search needs
 
 get-requires : tie.Need-get-requires Inv-loop μ-loop
 get-requires c κs =
-    let p = c .before .before .before .before .before .before .before .before .pre in
+    let p = c .before .before .before .before .before .before .before .before .before .pre in
     omega (arith, p .1 .1 .0 .low (c .before .before .before .before .loop .m) (c .before .before .before .loop-test .taken))
 
 add-requires : tie.Need-add-requires Inv-loop μ-loop
@@ -49,7 +50,7 @@ loop-less c = search needs
 
 loop-again : tie.Need-loop-again Inv-loop μ-loop
 loop-again c =
-    let p = c .before .before .before .before .before .before .before .before .pre in
+    let p = c .before .before .before .before .before .before .before .before .before .pre in
     ⊎-elim
     (λ w.
     rw (w .3, w .4)

@@ -1,3 +1,4 @@
+use Rattle.lattice.specs.Lattice.{medium}
 -- `lattice::stretched::across_map` meets its contract. The invariant (`Mapping`): the map is filled up to half-step p, where it is `here`.
 -- Assumes nothing.
 use Prim.Native.Nat.{_≤_, _-_, _*_}
@@ -10,10 +11,10 @@ use Rattle.lattice.proofs.stretched.across_map.Statement.{statement}
 use Rattle.lattice.proofs.stretched.across_map.Tie as tie
 
 abbrev Inv-loop : tie.InvT-loop
-Inv-loop l axis n x₀ here₀ p₀ p-end x here p = (n ≤ 64) × (p ≤ 2 * n) × Mapping (acrossStretch l axis) p x here
+Inv-loop l st axis n x₀ here₀ p₀ p-end x here p = (n ≤ 64) × (p ≤ 2 * n) × Mapping (acrossStretch (medium l st) axis) p x here
 
 abbrev μ-loop : tie.MeasureT-loop
-μ-loop l axis n x₀ here₀ p₀ p-end x here p = 2 * n - p
+μ-loop l st axis n x₀ here₀ p₀ p-end x here p = 2 * n - p
 
 n-requires : tie.Need-n-requires Inv-loop μ-loop
 n-requires c κs = search needs
@@ -25,10 +26,10 @@ zero-requires-2 : tie.Need-zero-requires-2 Inv-loop μ-loop
 zero-requires-2 c κs = search needs
 
 mul-p-end : tie.Need-mul-p-end Inv-loop μ-loop
-mul-p-end c = omega (arith, c .before .before .n .ensures, n-most (c .before .before .before .pre .0) (c .before .before .before .args .axis))
+mul-p-end c = omega (arith, c .before .before .n .ensures, n-most (c .before .before .before .before .pre .0) (c .before .before .before .before .args .axis))
 
 loop-holds : tie.Need-loop-holds Inv-loop μ-loop
-loop-holds c = (omega (arith, c .before .before .n .ensures, n-most (c .before .before .before .pre .0) (c .before .before .before .args .axis)), omega arith, mapping-start (c .before .zero .ensures) (c .zero2 .ensures))
+loop-holds c = (omega (arith, c .before .before .n .ensures, n-most (c .before .before .before .before .pre .0) (c .before .before .before .before .args .axis)), omega arith, mapping-start (c .before .zero .ensures) (c .zero2 .ensures))
 
 half-requires : tie.Need-half-requires Inv-loop μ-loop
 half-requires c κs = search needs
@@ -66,7 +67,7 @@ loop-again c = (
 
 returns : tie.Need-returns Inv-loop μ-loop
 unfolding acrossMap
-returns c = mapping-end (c .before .loop .inv .2) (omega (arith, c .before .before .before .before .n .ensures)) (n-most (c .before .before .before .before .before .pre .0) (c .before .before .before .before .before .args .axis))
+returns c = mapping-end (c .before .loop .inv .2) (omega (arith, c .before .before .before .before .n .ensures)) (n-most (c .before .before .before .before .before .before .pre .0) (c .before .before .before .before .before .before .args .axis))
 
 pub across-map-spec : {M : Type 1} → statement M
 across-map-spec =
