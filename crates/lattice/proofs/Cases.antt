@@ -6,10 +6,10 @@ use lib.Ieee.{sub, mul, le, ofBits, ofInt}
 use Rattle.numbers.specs.Complex.{zeroNumber, sum, difference, realTimes, squares}
 use Rattle.lattice.specs.Lattice.{tabulate}
 use Rattle.lattice.specs.Stretched.{mapAt, mapEntry, mapList}
-use Rattle.lattice.specs.Line.{finestEnds, joins, skips, joined, coarserEnds}
+use Rattle.lattice.specs.Line.{finestEnds, joinsBy, joins, skips, joined, coarserEnds}
 use Rattle.lattice.specs.Levels.{target}
 use Rattle.lattice.specs.Cases.{Outcome, Case, joining, table}
 
 pub all-cases : map (λ (c : Case). c .computed) table ≡ map (λ (c : Case). c .expected) table
-unfolding joining table tabulate mapAt mapEntry mapList finestEnds joins skips joined coarserEnds target zeroNumber sum difference realTimes squares sub mul le ofBits ofInt
+unfolding joining table tabulate mapAt mapEntry mapList finestEnds joinsBy joins skips joined coarserEnds target zeroNumber sum difference realTimes squares sub mul le ofBits ofInt
 all-cases = refl

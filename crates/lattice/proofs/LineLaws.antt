@@ -1,8 +1,8 @@
 -- Laws of lines: what a record holds, rising, the finest line, joining, and the numbers of a coarse line's nodes on a fine one.
 -- Assumes nothing.
-use Prim.Native.Nat.{ℕ, zero, suc, _+_, _-_, _*_, _<_, _≤_, suc-le-suc}
+use Prim.Native.Nat.{ℕ, zero, suc, _+_, _-_, _*_, _<_, _≤_, suc-le-suc, min}
 use native.Mathlib.Nat.{le-of-suc-le-suc, not-suc-le-zero}
-use native.Mathlib.Decide.{decLt}
+use native.Mathlib.Decide.{decLe, decLt}
 use native.Mathlib.Numerals.{add-one}
 use native.Mathlib.Omega.{arith}
 use mathlib.Core.Path.{_≡_, refl, sym, ap, _∙_, subst}
@@ -14,9 +14,10 @@ use lib.ListN.{length, getD, take, drop, set, replicate, length-append, length-r
 use lib.Seq.{take-at, getD-take, getD-drop, drop-cons, getD-set-other, take-suc-set, append-snoc, length-take-le}
 use lib.Ieee.{Float}
 use Rattle.numbers.specs.declared.C64.{C64}
+use Rattle.numbers.specs.Complex.{noNumber}
 use Rattle.lattice.specs.declared.line.Line.{Line}
 use Rattle.lattice.specs.Lattice.{tabulate}
-use Rattle.lattice.specs.Line.{packed, endsOf, twice, finestEnds, joins, skips, joined, coarserEnds, nextEnd, before, nodesOf, Rises, LineOver, Held}
+use Rattle.lattice.specs.Line.{packed, endsOf, twice, finestEnds, joinsBy, joins, skips, joined, coarserEnds, nextBy, nextEnd, before, nodesOf, Rises, LineOver, Held}
 use Rattle.lattice.proofs.TabulateLaws.{length-tabulate, tabulate-at-0, is-tabulate, is-replicate, Filled, filled-start, filled-turn, filled-end}
 
 -- ---- what a record holds
@@ -208,21 +209,34 @@ module _ (x : List C64) (t : Float) where
 
 -- ---- the end that is kept behind end m
 
+module _ (n m : ℕ) (b : Bool) where
+  pub next-two : m + 2 ≤ n → b ≡ true → m + 2 ≡ nextBy n m b
+  unfolding nextBy
+  next-two h e = rw (le-leb (m + 2) n h, e)
+
+  pub next-one : m + 2 ≤ n → b ≡ false → m + 1 ≡ nextBy n m b
+  unfolding nextBy
+  next-one h e = rw (le-leb (m + 2) n h, e)
+
+  pub next-last : n < m + 2 → m + 1 ≡ nextBy n m b
+  unfolding nextBy
+  next-last h = rw (lt-leb (m + 2) n h)
+
 module _ (x : List C64) (t : Float) (l : Line) (m : ℕ) where
-  pub next-two : m + 2 ≤ l .cells → joins x t (getD (l .ends) m 0) (getD (l .ends) (m + 2) 0) ≡ true → m + 2 ≡ nextEnd x t l m
-  unfolding nextEnd
-  next-two h e = rw (le-leb (m + 2) (l .cells) h, e)
-
-  pub next-one : m + 2 ≤ l .cells → joins x t (getD (l .ends) m 0) (getD (l .ends) (m + 2) 0) ≡ false → m + 1 ≡ nextEnd x t l m
-  unfolding nextEnd
-  next-one h e = rw (le-leb (m + 2) (l .cells) h, e)
-
-  pub next-last : l .cells < m + 2 → m + 1 ≡ nextEnd x t l m
-  unfolding nextEnd
-  next-last h = rw (lt-leb (m + 2) (l .cells) h)
+  -- the second end behind m is read, or, where there is none, the last, which then decides nothing
+  pub next-is : (i : ℕ) → i ≡ min (m + 2) (l .cells)
+      → nextBy (l .cells) m (joinsBy (getD x (getD (l .ends) m 0) noNumber) (getD x (getD (l .ends) i 0) noNumber) t) ≡ nextEnd x t l m
+  unfolding nextEnd joins
+  next-is i e = go (decLe (m + 2) (l .cells))
+    where
+      go : Dec (m + 2 ≤ l .cells)
+          → nextBy (l .cells) m (joinsBy (getD x (getD (l .ends) m 0) noNumber) (getD x (getD (l .ends) i 0) noNumber) t)
+          ≡ nextBy (l .cells) m (joinsBy (getD x (getD (l .ends) m 0) noNumber) (getD x (getD (l .ends) (m + 2) 0) noNumber) t)
+      go (yes h) = let o : i ≡ m + 2 = omega arith in rw o
+      go (no h) = sym (next-last (l .cells) m _ (omega arith)) ∙ next-last (l .cells) m _ (omega arith)
 
   next-within : m < l .cells → (m < nextEnd x t l m) × (nextEnd x t l m ≤ l .cells)
-  unfolding nextEnd
+  unfolding nextEnd nextBy
   next-within h = go (leb (m + 2) (l .cells)) (joins x t (getD (l .ends) m 0) (getD (l .ends) (m + 2) 0)) refl
     where
       go : (a b : Bool) → leb (m + 2) (l .cells) ≡ a → (m < cond (a && b) (m + 2) (m + 1)) × (cond (a && b) (m + 2) (m + 1) ≤ l .cells)
@@ -271,7 +285,7 @@ module _ (x : List C64) (t : Float) where
   -- the end that is kept behind end m
   next-skips : (l : Line) → Held l → (m : ℕ) → m < l .cells
       → nextEnd x t l m ≡ cond (skips x t (getD (endsOf l) m 0) (drop (m + 1) (endsOf l))) (m + 2) (m + 1)
-  unfolding nextEnd
+  unfolding nextEnd nextBy
   next-skips l p m h = go (decLt (m + 1) (l .cells))
     where
       e : length (endsOf l) ≡ l .cells + 1

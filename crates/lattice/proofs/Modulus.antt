@@ -23,7 +23,7 @@ use lib.Ieee.Positive.{positive-of-value, between, le-trans-positive}
 use Rattle.numbers.specs.declared.C64.{C64}
 use Rattle.numbers.proofs.Laws.{and-left}
 use Rattle.numbers.specs.Complex.{addF, mulF, zeroF, noNumber, difference, squares}
-use Rattle.lattice.specs.Line.{joins}
+use Rattle.lattice.specs.Line.{joinsBy, joins}
 use Rattle.lattice.specs.Levels.{target}
 use Rattle.lattice.specs.Modulus.{absF}
 use Rattle.lattice.proofs.TargetLaws.{squared, target-value, square-value, square-exact}
@@ -274,7 +274,7 @@ module _ (L : ℕ) (l : L < 12) where
   -- the joining test, for any map
   pub joins-modulus : (x : List C64) (a c : ℕ) → eq (difference (getD x c noNumber) (getD x a noNumber) .im) zeroF ≡ true
       → joins x (target L) a c ≡ le (absF (difference (getD x c noNumber) (getD x a noNumber) .re)) (target L)
-  unfolding joins
+  unfolding joins joinsBy
   joins-modulus x a c h = modulus (difference (getD x c noNumber) (getD x a noNumber)) (difference-fits (getD x c noNumber) (getD x a noNumber)) h
     where
       difference-fits : (y z : C64) → T (fits binary64 (difference y z .re))

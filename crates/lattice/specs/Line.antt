@@ -31,9 +31,13 @@ finestEnds n = tabulate twice (n + 1) 0
 
 -- ---- joining
 
--- two cells, from end a to end c, join when the map's difference (re, im) over both has re re + im im ≤ T T
+-- two cells join when the map's difference (re, im) over both has re re + im im ≤ T T; by the map at their first end and at their last
+unfoldable pub joinsBy : C64 → C64 → Float → Bool
+joinsBy first last t = Ieee.le (squares (difference last first)) (mulF t t)
+
+-- the two cells from end a to end c
 unfoldable pub joins : List C64 → Float → ℕ → ℕ → Bool
-joins x t a c = Ieee.le (squares (difference (getD x c noNumber) (getD x a noNumber))) (mulF t t)
+joins x t a c = joinsBy (getD x a noNumber) (getD x c noNumber) t
 
 -- whether the first of the ends behind a is passed over: there is a second one, and the two cells up to it join
 unfoldable pub skips : List C64 → Float → ℕ → List ℕ → Bool
@@ -90,6 +94,9 @@ pub record Held (l : Line) : Type 0 where
   pub low : (m : ℕ) → m ≤ l .cells → getD (l .ends) m 0 < 129
   pub tidy : l ≡ packed (endsOf l)
 
--- the end that is kept behind end m
+-- the end that is kept behind end m of n cells, where the two cells behind it join or not
+unfoldable pub nextBy : ℕ → ℕ → Bool → ℕ
+nextBy n m join = cond (leb (m + 2) n && join) (m + 2) (m + 1)
+
 unfoldable pub nextEnd : List C64 → Float → Line → ℕ → ℕ
-nextEnd x t l m = cond (leb (m + 2) (l .cells) && joins x t (getD (l .ends) m 0) (getD (l .ends) (m + 2) 0)) (m + 2) (m + 1)
+nextEnd x t l m = nextBy (l .cells) m (joins x t (getD (l .ends) m 0) (getD (l .ends) (m + 2) 0))

@@ -2,9 +2,9 @@
 
 ghost use mathlib.Core.Path.{_≡_};
 ghost use mathlib.Core.List.{_++_};
-ghost use Prim.Native.Nat.{ℕ, _+_, _-_, _<_, _≤_};
+ghost use Prim.Native.Nat.{ℕ, _+_, _-_, _<_, _≤_, min};
 ghost use lib.ListN.{length, getD, drop, replicate};
-ghost use Rattle.lattice.specs.Line.{packed, endsOf, finestEnds, joins as joinsOf, nextEnd, coarserEnds, placeOf, before as beforeOf, nodesOf, Rises, Held};
+ghost use Rattle.lattice.specs.Line.{packed, endsOf, finestEnds, joinsBy, nextBy, coarserEnds, placeOf, before as beforeOf, nodesOf, Rises, Held};
 use numbers::C64;
 
 // A line of `cells` cells: its ends, one more than the cells, then zeros.
@@ -25,23 +25,31 @@ pub fn finest(n: usize) -> Line
     Line { cells: n, ends }
 }
 
-// Whether the two cells from end a to end c join.
-fn joins(x: [C64; 129], target: f64, a: usize, c: usize) -> bool
-    requires { ⌜ (a < 129) × (c < 129) ⌝ }
-    ensures { λ r. ⌜ r ≡ joinsOf x target a c ⌝ }
+// Whether two cells join, by the map at their first end and at their last.
+fn joins(first: C64, last: C64, target: f64) -> bool
+    ensures { λ r. ⌜ r ≡ joinsBy first last target ⌝ }
 {
-    let d = numbers::sub(x[c], x[a]);
-    numbers::norm_sqr(d) <= target * target
+    numbers::norm_sqr(numbers::sub(last, first)) <= target * target
 }
 
-// The end that is kept behind end m.
-fn next_end(l: Line, x: [C64; 129], target: f64, m: usize) -> usize
-    requires { ⌜ Held l ⌝ }
-    requires { ⌜ m < l .cells ⌝ }
-    ensures { λ r. ⌜ r ≡ nextEnd x target l m ⌝ }
+// The second end behind end m of a line of n cells, or the last.
+fn second_behind(m: usize, n: usize) -> usize
+    requires { ⌜ m < n ⌝ }
+    ensures { λ r. ⌜ r ≡ min (m + 2) n ⌝ }
 {
-    if m + 2 <= l.cells {
-        if joins(x, target, l.ends[m], l.ends[m + 2]) {
+    if m + 1 < n {
+        return m + 2;
+    }
+    n
+}
+
+// The end that is kept behind end m of a line of n cells, by the map at end m and at the second behind it.
+fn next_end(n: usize, m: usize, first: C64, last: C64, target: f64) -> usize
+    requires { ⌜ (m < n) × (n ≤ 64) ⌝ }
+    ensures { λ r. ⌜ r ≡ nextBy n m (joinsBy first last target) ⌝ }
+{
+    if m + 2 <= n {
+        if joins(first, last, target) {
             return m + 2;
         }
     }
@@ -62,7 +70,10 @@ pub fn coarser(l: Line, x: [C64; 129], target: f64) -> Line
     let mut m = 0;
     let mut k = 0;
     while m < n {
-        m = next_end(l, x, target, m);
+        let a = l.ends[m];
+        let i = second_behind(m, n);
+        let c = l.ends[i];
+        m = next_end(n, m, x[a], x[c], target);
         k += 1;
         ends[k] = l.ends[m];
     }
