@@ -2,7 +2,7 @@
 
 use crate::case::Case;
 use crate::{generate, ours, random::Random};
-use source::{Options, Stretched};
+use source::{Line, Stretched};
 use std::hint::black_box;
 
 // What one side leaves, in the lists that our side is lent.
@@ -50,14 +50,19 @@ pub fn bench_lines_ours(c: &Case, l: &mut Lists) -> usize {
 #[unsafe(no_mangle)]
 #[inline(never)]
 pub fn bench_lines_rust(c: &Case, l: &mut Lists) -> usize {
-    let levels = source::level_lines(&c.lattice(), &Options { coarsest: c.coarsest }).unwrap_or_default();
-    let [_, counts, ends] = &mut l.words;
-    counts[..36].fill(0);
-    ends[..36 * 65].fill(0);
-    for (q, line) in levels.iter().flatten().enumerate() {
-        counts[q] = line.cells();
-        ends[65 * q..65 * q + line.ends.len()].copy_from_slice(&line.ends);
+    let x = Stretched::new(&c.lattice()).across;
+    let mut levels = vec![[0, 1, 2].map(|a| Line::finest(c.cells[a]))];
+    // the lines of all axes, joined and kept as the level loop does it
+    while c.coarsest == 1 {
+        let lines = &levels[levels.len() - 1];
+        let target = 3.0 * (1 << (levels.len() - 1)) as f64;
+        let next = [0, 1, 2].map(|a| lines[a].coarser(&x[a], target));
+        if (0..3).all(|a| next[a].cells() == lines[a].cells()) {
+            break;
+        }
+        levels.push(next);
     }
+    l.words[1][0] = levels[levels.len() - 1][0].cells();
     levels.len()
 }
 
@@ -85,7 +90,13 @@ pub fn bench_maps_rust(c: &Case, l: &mut Lists) -> usize {
 // One of rows, lines and maps on one side, named as above.
 pub fn run(name: &str) -> Result<(), String> {
     let cube = name.starts_with("rows");
-    let cells = if cube { [16, 16, 16] } else { [64, 1, 1] };
+    // BASE: the same calls with as little of the work in question as they allow, to be taken off
+    let base = std::env::var_os("BASE").is_some();
+    let cells = match (cube, name.starts_with("maps") && base) {
+        (true, _) => [16, 16, 16],
+        (_, true) => [1, 1, 1],
+        _ => [64, 1, 1],
+    };
     let mut c = generate::filled(&mut Random::new(1), cells, [true; 3]);
     c.scalars = Case::plain(cells).scalars;
     for axis in 0..3 {
@@ -94,7 +105,7 @@ pub fn run(name: &str) -> Result<(), String> {
         c.lists[2 * axis] = [1.0, 0.0].repeat(cells[axis]);
         c.lists[2 * axis + 1] = [1.0, 0.0].repeat(cells[axis]);
     }
-    c.coarsest = 1;
+    c.coarsest = if base { usize::MAX } else { 1 };
     let n = 29 * 3 * 4096;
     let mut l = Lists { words: [vec![0; n], vec![0; n], vec![0; n]], doubles: [vec![0.0; 2 * n], vec![0.0; 2 * n]] };
     let work = match name {
