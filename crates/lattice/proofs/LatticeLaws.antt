@@ -11,10 +11,10 @@ use lib.ListN.{length, replicate}
 use lib.Ieee.{Float}
 use Rattle.numbers.specs.declared.C64.{C64}
 use Rattle.numbers.specs.Complex.{zeroNumber, noNumber}
-use Rattle.numbers.specs.Places.{places, numberAt, setNumber}
-use Rattle.numbers.proofs.Laws.{length-setNumber, number-same, number-other}
+use Rattle.numbers.specs.Places.{places, numberAt, setNumber, foundAt}
+use Rattle.numbers.proofs.Laws.{length-setNumber, number-same, number-other, found-held}
 use Rattle.lattice.specs.Grid.{axis3, nOf}
-use Rattle.lattice.specs.Lattice.{Medium, medium, tabulate, nodesAt, halvesAt, stretchNo, halfNo, stretchAt, latticeOf, Lengths, LaidStretches}
+use Rattle.lattice.specs.Lattice.{Medium, medium, tabulate, nodesAt, halvesAt, halfNo, stretchAt, latticeOf, Lengths, LaidStretches}
 use Rattle.lattice.specs.declared.lattice.Lattice.{Lattice}
 use Rattle.lattice.specs.declared.grid.Grid3d.{Grid3d}
 use Rattle.lattice.proofs.GridLaws.{axis-first, axis-second, axis-third}
@@ -59,25 +59,16 @@ filled-first {A} {f} {z} {d} {y} {n} e = subst (λ (x : A). Filled f z d n 0 (re
 
 -- ---- the list of stretches
 
-module _ (st : List Float) (k : ℕ) where
-  pub stretch-held : k < length st / 2 → numberAt st k ≡ stretchNo st k
-  unfolding stretchNo
-  stretch-held h = rw (lt-ltb k (length st / 2) h)
-
-  pub stretch-none : length st / 2 ≤ k → noNumber ≡ stretchNo st k
-  unfolding stretchNo
-  stretch-none h = rw (le-ltb k (length st / 2) h)
-
 -- the record's stretches are those of the list
-pub node-is : (l : Lattice) (st : List Float) (a m : ℕ) → a < 3 → m < 64 → stretchNo st (64 * a + m) ≡ nodesAt (medium l st) a m
+pub node-is : (l : Lattice) (st : List Float) (a m : ℕ) → a < 3 → m < 64 → foundAt st (64 * a + m) ≡ nodesAt (medium l st) a m
 unfolding nodesAt
-node-is l st a m h b = sym (tabulate-at-0 (stretchNo st) 192 (64 * a + m) noNumber (omega arith))
+node-is l st a m h b = sym (tabulate-at-0 (foundAt st) 192 (64 * a + m) noNumber (omega arith))
 
-pub half-is : (l : Lattice) (st : List Float) (a m : ℕ) → a < 3 → m < 64 → stretchNo st (192 + 64 * a + m) ≡ halvesAt (medium l st) a m
+pub half-is : (l : Lattice) (st : List Float) (a m : ℕ) → a < 3 → m < 64 → foundAt st (192 + 64 * a + m) ≡ halvesAt (medium l st) a m
 unfolding halvesAt
 half-is l st a m h b =
     let e : 192 + 64 * a + m ≡ 192 + (64 * a + m) = omega arith in
-    ap (stretchNo st) e ∙ sym (tabulate-at-0 (halfNo st) 192 (64 * a + m) noNumber (omega arith))
+    ap (foundAt st) e ∙ sym (tabulate-at-0 (halfNo st) 192 (64 * a + m) noNumber (omega arith))
 
 pub laid-start : (f : ℕ → C64) (from : ℕ) (xs : List Float) → LaidStretches f from 0 xs xs
 laid-start f from xs =
@@ -115,7 +106,7 @@ module _ (v : Lattice) (xn xh yn yh zn zh : List Float) where
           z = v .z;
           k0 = v .k0;
           shift = v .shift;
-          nodes = tabulate-agree (stretchNo zs) (stretchAt (v .grid) xn yn zn) 192 noNumber low i;
+          nodes = tabulate-agree (foundAt zs) (stretchAt (v .grid) xn yn zn) 192 noNumber low i;
           halves = tabulate-agree (halfNo zs) (stretchAt (v .grid) xh yh zh) 192 noNumber high i;
         },
   )
@@ -123,8 +114,8 @@ module _ (v : Lattice) (xn xh yn yh zn zh : List Float) where
       long : length zs ≡ 768
       long = b .long ∙ a .long ∙ e
 
-      low : (k : ℕ) → k < 192 → stretchNo zs k ≡ stretchAt (v .grid) xn yn zn k
-      low k h = sym (stretch-held zs k (omega (arith, long))) ∙ b .before k h ∙ first k h
+      low : (k : ℕ) → k < 192 → foundAt zs k ≡ stretchAt (v .grid) xn yn zn k
+      low k h = sym (found-held zs k (omega (arith, long))) ∙ b .before k h ∙ first k h
         where
           first : (k : ℕ) → k < 192 → numberAt ys k ≡ stretchAt (v .grid) xn yn zn k
           first k h =
@@ -132,4 +123,4 @@ module _ (v : Lattice) (xn xh yn yh zn zh : List Float) where
               subst (λ (j : ℕ). numberAt ys j ≡ stretchAt (v .grid) xn yn zn k) o (a .inside k h (omega (arith, e)))
 
       high : (k : ℕ) → k < 192 → halfNo zs k ≡ stretchAt (v .grid) xh yh zh k
-      high k h = sym (stretch-held zs (192 + k) (omega (arith, long))) ∙ b .inside k h (omega (arith, a .long, e))
+      high k h = sym (found-held zs (192 + k) (omega (arith, long))) ∙ b .inside k h (omega (arith, a .long, e))

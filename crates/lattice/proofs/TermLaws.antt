@@ -159,16 +159,16 @@ columns-held {b} {n} {cs} {xs} {ts} e = sym (columns-from cs xs 0 n (omega arith
 
 -- ---- each
 
-pub each-append : {A : Type 0} (f : Term → List A) (ts us : List Term) → each f (ts ++ us) ≡ each f ts ++ each f us
+pub each-append : {A B : Type 0} (f : A → List B) (ts us : List A) → each f (ts ++ us) ≡ each f ts ++ each f us
 unfolding each
 each-append f [] us = refl
 each-append f (t ∷ ts) us = rw (each-append f ts us) (sym (append-assoc (f t) (each f ts) (each f us)))
 
-each-one : {A : Type 0} (f : Term → List A) (t : Term) → each f (t ∷ []) ≡ f t
+pub each-one : {A B : Type 0} (f : A → List B) (t : A) → each f (t ∷ []) ≡ f t
 unfolding each
 each-one f t = append-nil (f t)
 
-pub each-most : {A : Type 0} (f : Term → List A) (b : ℕ) → ((t : Term) → length (f t) ≤ b) → (ts : List Term) → length (each f ts) ≤ b * length ts
+pub each-most : {A B : Type 0} (f : A → List B) (b : ℕ) → ((t : A) → length (f t) ≤ b) → (ts : List A) → length (each f ts) ≤ b * length ts
 unfolding each
 each-most f b h [] = omega arith
 each-most f b h (t ∷ ts) =

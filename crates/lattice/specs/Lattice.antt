@@ -9,7 +9,7 @@ use lib.ListN.{length, getD}
 use lib.Ieee.{Float}
 use Rattle.numbers.specs.declared.C64.{C64}
 use Rattle.numbers.specs.Complex.{zeroNumber, noNumber}
-use Rattle.numbers.specs.Places.{places, numberAt}
+use Rattle.numbers.specs.Places.{places, numberAt, foundAt}
 use Rattle.lattice.specs.Grid.{axis3, nOf}
 use Rattle.lattice.specs.declared.grid.Grid3d.{Grid3d}
 use Rattle.lattice.specs.declared.lattice.Edges.{Edges}
@@ -32,12 +32,8 @@ unfoldable pub tabulate : {A : Type 0} → (ℕ → A) → ℕ → ℕ → List 
 tabulate f zero k = []
 tabulate f (suc n) k = f k ∷ tabulate f n (suc k)
 
--- number k of the list of stretches: none past its end
-unfoldable pub stretchNo : List Float → ℕ → C64
-stretchNo st k = cond (ltb k (length st / 2)) (numberAt st k) noNumber
-
 abbrev pub halfNo : List Float → ℕ → C64
-halfNo st k = stretchNo st (192 + k)
+halfNo st k = foundAt st (192 + k)
 
 -- the lattice record with a list of stretches: 192 numbers for the nodes, 192 for halfway behind them
 abbrev pub medium : Lattice → List Float → Medium
@@ -49,7 +45,7 @@ medium l st =
       z = l .z;
       k0 = l .k0;
       shift = l .shift;
-      nodes = tabulate (stretchNo st) 192 0;
+      nodes = tabulate (foundAt st) 192 0;
       halves = tabulate (halfNo st) 192 0;
     }
 

@@ -17,10 +17,10 @@ unfoldable pub columnsOf : List Term → List ℕ
 columnsOf [] = []
 columnsOf (t ∷ ts) = t .column ∷ columnsOf ts
 
--- what f gives for each term, one behind another
-unfoldable pub each : {A : Type 0} → (Term → List A) → List Term → List A
+-- what f gives for each element of a list, one behind another
+unfoldable pub each : {A B : Type 0} → (A → List B) → List A → List B
 each f [] = []
-each f (t ∷ ts) = f t ++ each f ts
+each f (x ∷ xs) = f x ++ each f xs
 
 -- the lent columns and numbers with the terms laid over them, one in each place from k on; what would lie past a list's end is left out
 unfoldable pub laidColumns : List ℕ → ℕ → List Term → List ℕ

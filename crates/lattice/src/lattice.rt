@@ -4,7 +4,7 @@ ghost use mathlib.Core.Path.{_≡_};
 ghost use Prim.Native.Nat.{_*_, _<_, _≤_};
 ghost use lib.ListN.{length};
 ghost use Rattle.lattice.specs.Grid.{nOf};
-ghost use Rattle.lattice.specs.Lattice.{medium, edgesOf, isWall, nodesAt, halvesAt, stretchNo, stretchAt, latticeOf, Lengths, LaidStretches};
+ghost use Rattle.lattice.specs.Lattice.{medium, edgesOf, isWall, nodesAt, halvesAt, stretchAt, latticeOf, Lengths, LaidStretches};
 use crate::grid;
 use crate::grid::Grid3d;
 use numbers::C64;
@@ -48,24 +48,13 @@ pub fn is_wall(e: Edges) -> bool
     }
 }
 
-// Number k of the list of stretches, and a number that is none where the list is too short.
-fn stretch_at(st: &[f64], k: usize) -> C64
-    ensures { λ r. ⌜ r ≡ stretchNo (now (st .entry)) k ⌝ }
-{
-    if k < st.len() / 2 {
-        return numbers::get(st, k);
-    }
-    let nan = 0.0 / 0.0;
-    C64 { re: nan, im: nan }
-}
-
 // The stretch at node m of an axis. `requires`: such a node's place in the list.
 pub fn node(l: Lattice, st: &[f64], axis: usize, m: usize) -> C64
     requires { ⌜ axis < 3 ⌝ }
     requires { ⌜ m < 64 ⌝ }
     ensures { λ r. ⌜ r ≡ nodesAt (medium l (now (st .entry))) axis m ⌝ }
 {
-    stretch_at(st, 64 * axis + m)
+    numbers::find(st, 64 * axis + m)
 }
 
 // The stretch halfway behind node m of an axis.
@@ -74,7 +63,7 @@ pub fn half(l: Lattice, st: &[f64], axis: usize, m: usize) -> C64
     requires { ⌜ m < 64 ⌝ }
     ensures { λ r. ⌜ r ≡ halvesAt (medium l (now (st .entry))) axis m ⌝ }
 {
-    stretch_at(st, 192 + 64 * axis + m)
+    numbers::find(st, 192 + 64 * axis + m)
 }
 
 // Place q of a record's list of stretches: number q % 64 of the list of axis q / 64, and zero beyond that axis's cells.

@@ -12,8 +12,8 @@ use lib.ListN.{length, getD, set, length-set}
 use lib.Seq.{getD-set-same, getD-set-other, set-out}
 use lib.Ieee.{Float, nan, inf, fin}
 use Rattle.numbers.specs.declared.C64.{C64}
-use Rattle.numbers.specs.Complex.{finiteDouble, finite}
-use Rattle.numbers.specs.Places.{places, numberAt, setNumber}
+use Rattle.numbers.specs.Complex.{noNumber, finiteDouble, finite}
+use Rattle.numbers.specs.Places.{places, numberAt, setNumber, foundAt}
 
 -- two numbers are equal by their parts
 pub parts : {x y : C64} → x .re ≡ y .re → x .im ≡ y .im → x ≡ y
@@ -110,3 +110,13 @@ number-other xs k j v h = go (ltb k (length xs / 2))
         (getD-set-other ys (2 * k + 1) (2 * j) (v .im) nan (omega arith) ∙ getD-set-other xs (2 * k) (2 * j) (v .re) nan (omega arith))
         (getD-set-other ys (2 * k + 1) (2 * j + 1) (v .im) nan (omega arith) ∙ getD-set-other xs (2 * k) (2 * j + 1) (v .re) nan (omega arith))
     go false = refl
+
+-- number k of a list, where the list has it and where not
+module _ (xs : List Float) (k : ℕ) where
+  pub found-held : k < length xs / 2 → numberAt xs k ≡ foundAt xs k
+  unfolding foundAt
+  found-held h = rw (lt-ltb k (length xs / 2) h)
+
+  pub found-none : length xs / 2 ≤ k → noNumber ≡ foundAt xs k
+  unfolding foundAt
+  found-none h = rw (le-ltb k (length xs / 2) h)

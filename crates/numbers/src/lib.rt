@@ -5,7 +5,7 @@ ghost use mathlib.Core.Path.{_≡_};
 ghost use Prim.Native.Nat.{_+_, _*_, _<_};
 ghost use lib.ListN.{length};
 ghost use Rattle.numbers.specs.Complex.{zeroNumber, oneNumber, sum, difference, product, squares, quotient, realOver, overReal, realTimes, negation, conjugate, oneMinus, inverse, finiteDouble, finite, isZero};
-ghost use Rattle.numbers.specs.Places.{places, numberAt, setNumber};
+ghost use Rattle.numbers.specs.Places.{places, numberAt, setNumber, foundAt};
 
 // A complex number: real part, then imaginary part.
 pub struct C64 {
@@ -187,4 +187,15 @@ pub fn put(xs: &mut [f64], k: usize, v: C64)
         xs[2 * k] = v.re;
         xs[2 * k + 1] = v.im;
     }
+}
+
+// Number k of a list, and one that is no number where the list has no such place.
+pub fn find(xs: &[f64], k: usize) -> C64
+    ensures { λ r. ⌜ r ≡ foundAt (now (xs .entry)) k ⌝ }
+{
+    if k < xs.len() / 2 {
+        return get(xs, k);
+    }
+    let nan = 0.0 / 0.0;
+    C64 { re: nan, im: nan }
 }
