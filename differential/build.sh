@@ -1,6 +1,6 @@
 # Sourced by run and bench: cuts the Rust, makes the static library, builds the driver.
 # `source`: the checkout of the Rust. `driver`: the program that is built.
-# FAULT: a planted fault of cut.py. LATTICE_LIB: a folder that has liblattice_c.a already.
+# FAULT: a planted fault of cut.py. OUR_LIBS: a folder that has the static libraries already.
 
 top=$(cd "$(dirname "${BASH_SOURCE[0]}")/.." && pwd)
 work=$top/target/differential
@@ -51,13 +51,17 @@ edition = "2024"
 num-complex = "0.4"
 PACKAGE
 
-    if [ -z "${LATTICE_LIB:-}" ]; then
+    if [ -z "${OUR_LIBS:-}" ]; then
         command -v rt >/dev/null || die "no rt"
-        (cd "$top" && rt staticlib lattice_c) >"$work/staticlib.log" 2>&1 || { cat "$work/staticlib.log"; die "rt staticlib lattice_c failed"; }
-        LATTICE_LIB=$top/target/staticlib
+        for tool in lattice_c weights_c; do
+            (cd "$top" && rt staticlib $tool) >"$work/staticlib.log" 2>&1 || { cat "$work/staticlib.log"; die "rt staticlib $tool failed"; }
+        done
+        OUR_LIBS=$top/target/staticlib
     fi
-    [ -f "$LATTICE_LIB/liblattice_c.a" ] || die "no liblattice_c.a in $LATTICE_LIB"
-    export LATTICE_LIB
+    for tool in lattice_c weights_c; do
+        [ -f "$OUR_LIBS/lib$tool.a" ] || die "no lib$tool.a in $OUR_LIBS"
+    done
+    export OUR_LIBS
     rm -f "$work/Cargo.lock"
     (cd "$work" && cargo build --release --offline --quiet -j "${JOBS:-1}" -p differential) || die "the driver was not built"
 }

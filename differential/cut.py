@@ -34,6 +34,9 @@ ITEMS = [
     (MULTIGRID, None, ["const ANISOTROPY", "struct Stretched"]),
     (MULTIGRID, "Stretched", ["fn new"]),
     (MULTIGRID, None, ["fn stencil_row"]),
+    (MULTIGRID, None, ["struct Transfer"]),
+    (MULTIGRID, "Transfer", ["fn from_rows", "fn transpose"]),
+    (MULTIGRID, None, ["fn interpolate_line", "fn coarse_eps", "type Weights", "fn prolongation"]),
 ]
 
 # What is changed: the item, a pattern, what takes its place, the reason. All are ordered by the specification but the one
@@ -48,6 +51,11 @@ CHANGES = [
      "the squares take the place of norm"),
     ("Line::coarser_by_norm", r"\bfn coarser\b", "fn coarser_by_norm", "the original, kept beside the changed one"),
     ("stencil_row", r"\bsort_unstable_by_key\b", "sort_by_key", "the sort is a stable one"),
+    ("prolongation", r"Edges::Bloch \{ k \} => \{\s*Some\(c64::from_polar\([^\n]*\)\)\s*\}", "Edges::Bloch { p } => Some(p),",
+     "p is handed in in place of from_polar"),
+    ("prolongation", r"Edges::Pml \{ \.\. \}", "Edges::Pml", "a wall holds nothing"),
+    ("prolongation", r"\n *use rayon::prelude::\*;", "", "a plain loop in place of rayon's"),
+    ("prolongation", r"\n *\.into_par_iter\(\)\n *\.with_min_len\(4096\)", "", "a plain loop in place of rayon's"),
 ]
 
 # The level loop: lines of Hierarchy::build, in their order, cut by how they begin, and lines of our own (marked +),

@@ -4,7 +4,7 @@
     unproved.py CRATES OUT [FAULT]
 
 The prover makes no library of code with a fault in it, so here the .rt files, contracts left out, are put together
-as one Rust file and compiled by rustc into OUT/liblattice_c.a. Only to see that the run can fail. Without FAULT the
+as one Rust file and compiled by rustc into libraries in OUT. Only to see that the run can fail. Without FAULT the
 code is left as it is; each of FAULTS must hit exactly once. `--list` names them.
 """
 
@@ -61,6 +61,14 @@ def plain(crates, name, fault):
     return re.sub(r"^pub (struct|enum) ", r"#[derive(Clone, Copy)]\npub \1 ", text, flags=re.M)
 
 
+def inside(text, crate, above):
+    """A file as a module of one Rust crate: its paths begin with the crates that it names."""
+    text = text.replace("crate::", f"crate::{crate}::")
+    for name in above:
+        text = re.sub(rf"^use {name}::", f"use crate::{name}::", text, flags=re.M)
+    return "".join(f"use crate::{name};\n" for name in above) + text
+
+
 def main():
     if sys.argv[1:] == ["--list"]:
         print("\n".join(FAULTS))
@@ -72,13 +80,18 @@ def main():
     if fault and fault not in FAULTS:
         stop(f"no fault {fault}")
     parts = ["#![allow(unused, improper_ctypes_definitions)]",
-             "pub mod numbers {\n" + plain(crates, "numbers/src/lib.rt", fault) + "\n}", "pub mod lattice {"]
-    for name in sorted(os.listdir(os.path.join(crates, "lattice/src"))):
-        if name != "lib.rt":
-            text = plain(crates, "lattice/src/" + name, fault)
-            text = text.replace("crate::", "crate::lattice::").replace("use numbers::", "use crate::numbers::")
-            parts.append(f"pub mod {name[:-3]} {{\nuse crate::numbers;\n{text}\n}}")
-    parts += ["}", plain(crates, "lattice_c/src/lib.rt", fault)]
+             "pub mod numbers {\n" + plain(crates, "numbers/src/lib.rt", fault) + "\n}"]
+    # the crates of modules, then those of one file; each sees those before it
+    for crate, above in (("lattice", ["numbers"]), ("weights", ["numbers", "lattice"])):
+        parts.append(f"pub mod {crate} {{")
+        for name in sorted(os.listdir(os.path.join(crates, crate, "src"))):
+            if name != "lib.rt":
+                text = plain(crates, f"{crate}/src/{name}", fault)
+                parts.append(f"pub mod {name[:-3]} {{\n{inside(text, crate, above)}\n}}")
+        parts.append("}")
+    for crate, above in (("lattice_c", ["numbers", "lattice"]), ("weights_c", ["numbers", "lattice", "weights", "lattice_c"])):
+        text = plain(crates, f"{crate}/src/lib.rt", fault)
+        parts.append(f"pub mod {crate} {{\n{inside(text, crate, above)}\n}}")
     os.makedirs(out, exist_ok=True)
     with open(os.path.join(out, "unproved.rs"), "w", encoding="utf-8") as file:
         file.write("\n".join(parts))
@@ -88,10 +101,11 @@ def main():
                           cwd=out, stderr=subprocess.PIPE, text=True)
     if made.returncode != 0:
         stop("the files don't compile as Rust:\n" + made.stderr)
-    library = os.path.join(out, "liblattice_c.a")
-    if os.path.exists(library):
-        os.remove(library)
-    subprocess.run(["ar", "crs", "liblattice_c.a", "unproved.o"], cwd=out, check=True)
+    # all of it in one of the libraries that the driver links, the other empty
+    for library, members in (("liblattice_c.a", ["unproved.o"]), ("libweights_c.a", [])):
+        if os.path.exists(os.path.join(out, library)):
+            os.remove(os.path.join(out, library))
+        subprocess.run(["ar", "crs", library] + members, cwd=out, check=True)
 
 
 main()

@@ -1,8 +1,10 @@
-// Links the static library; LATTICE_LIB is the folder that it is in.
+// Links the static libraries; OUR_LIBS is the folder that they are in.
 fn main() {
-    let folder = std::env::var("LATTICE_LIB").expect("LATTICE_LIB: the folder with liblattice_c.a");
-    println!("cargo:rerun-if-env-changed=LATTICE_LIB");
-    println!("cargo:rerun-if-changed={folder}/liblattice_c.a");
+    let folder = std::env::var("OUR_LIBS").expect("OUR_LIBS: the folder with the static libraries");
+    println!("cargo:rerun-if-env-changed=OUR_LIBS");
     println!("cargo:rustc-link-search=native={folder}");
-    println!("cargo:rustc-link-lib=static=lattice_c");
+    for name in ["lattice_c", "weights_c"] {
+        println!("cargo:rerun-if-changed={folder}/lib{name}.a");
+        println!("cargo:rustc-link-lib=static={name}");
+    }
 }

@@ -63,7 +63,7 @@ fn no_input() -> Lattice
 }
 
 // The input of two lists; one of no cells where either list is too short.
-fn input(cells: &[usize], scalars: &[f64]) -> Lattice
+pub fn input(cells: &[usize], scalars: &[f64]) -> Lattice
     ensures { λ r. ⌜ r ≡ inputOf (now (cells .entry)) (now (scalars .entry)) ⌝ }
 {
     if cells.len() < 3 {
@@ -99,7 +99,7 @@ fn put(out: &mut [usize], k: usize, n: usize)
     }
 }
 
-fn put_two(out: &mut [usize], a: usize, b: usize)
+pub fn put_two(out: &mut [usize], a: usize, b: usize)
     ensures { λ _. ⌜ now (out .exit) ≡ set (set (now (out .entry)) 0 a) 1 b ⌝ }
 {
     put(out, 0, a);
@@ -107,7 +107,7 @@ fn put_two(out: &mut [usize], a: usize, b: usize)
 }
 
 // A refusal's number and place; 0 and n where there is none.
-fn answer(c: Checked, n: usize, out: &mut [usize])
+pub fn answer(c: Checked, n: usize, out: &mut [usize])
     ensures { λ _. ⌜ now (out .exit) ≡ answered (verdictOf c) n (now (out .entry)) ⌝ }
 {
     match c {

@@ -1,14 +1,18 @@
 // The same work on both sides, each in a function of its own, whose instructions callgrind counts.
 
 use crate::case::Case;
-use crate::{generate, ours, random::Random};
-use source::{Line, Stretched};
+use crate::{generate, ours, random::Random, transfers};
+use num_complex::Complex64 as c64;
+use source::{Lattice, Line, Stretched};
 use std::hint::black_box;
 
 // What one side leaves, in the lists that our side is lent.
 pub struct Lists {
     words: [Vec<usize>; 3],
     doubles: [Vec<f64>; 2],
+    // a transfer's turned rows, and the permittivities
+    turned: [Vec<usize>; 2],
+    numbers: [Vec<f64>; 2],
 }
 
 #[unsafe(no_mangle)]
@@ -87,9 +91,35 @@ pub fn bench_maps_rust(c: &Case, l: &mut Lists) -> usize {
     maps.across[0].len()
 }
 
-// One of rows, lines and maps on one side, named as above.
+// The first transfer, from the input on: the checks, the maps and the lines of all levels are in it.
+#[unsafe(no_mangle)]
+#[inline(never)]
+pub fn bench_transfer_ours(c: &Case, l: &mut Lists) -> usize {
+    let [starts, columns, out] = &mut l.words;
+    let [tstarts, tcolumns] = &mut l.turned;
+    let [tvalues, eps] = &mut l.numbers;
+    ours::transfer(c, 0, &mut out[..2], eps, starts, columns, &mut l.doubles[0], tstarts, tcolumns, tvalues);
+    out[1]
+}
+
+// The same with the maps and the lines given: coarse_eps, prolongation, from_rows and transpose.
+#[unsafe(no_mangle)]
+#[inline(never)]
+pub fn bench_transfer_rust(lattice: &Lattice, maps: &Stretched, lines: (&[Line; 3], &[Line; 3]), eps: &[c64]) -> usize {
+    black_box(transfers::theirs(lattice, maps, lines, eps)).turned.columns.len()
+}
+
+fn rust_transfer(c: &Case) -> usize {
+    let lattice = c.lattice();
+    let maps = Stretched::new(&lattice);
+    let fine = [0, 1, 2].map(|a| Line::finest(c.cells[a]));
+    let coarse = [0, 1, 2].map(|a| fine[a].coarser(&maps.across[a], 3.0));
+    bench_transfer_rust(&lattice, &maps, (&fine, &coarse), &c.numbers(6))
+}
+
+// One of rows, lines, maps and transfer on one side, named as above.
 pub fn run(name: &str) -> Result<(), String> {
-    let cube = name.starts_with("rows");
+    let cube = name.starts_with("rows") || name.starts_with("transfer");
     // BASE: the same calls with as little of the work in question as they allow, to be taken off
     let base = std::env::var_os("BASE").is_some();
     let cells = match (cube, name.starts_with("maps") && base) {
@@ -107,7 +137,9 @@ pub fn run(name: &str) -> Result<(), String> {
     }
     c.coarsest = if base { usize::MAX } else { 1 };
     let n = 29 * 3 * 4096;
-    let mut l = Lists { words: [vec![0; n], vec![0; n], vec![0; n]], doubles: [vec![0.0; 2 * n], vec![0.0; 2 * n]] };
+    let mut l = Lists { words: [vec![0; n], vec![0; n], vec![0; n]], doubles: [vec![0.0; 2 * n], vec![0.0; 2 * n]],
+        turned: [vec![0; n], vec![0; n]], numbers: [vec![0.0; 2 * n], c.lists[6].clone()] };
+    l.numbers[1].resize(2 * n, 0.0);
     let work = match name {
         "rows_ours" => bench_rows_ours,
         "rows_rust" => bench_rows_rust,
@@ -115,6 +147,11 @@ pub fn run(name: &str) -> Result<(), String> {
         "lines_rust" => bench_lines_rust,
         "maps_ours" => bench_maps_ours,
         "maps_rust" => bench_maps_rust,
+        "transfer_ours" => bench_transfer_ours,
+        "transfer_rust" => {
+            println!("{name}: {}", rust_transfer(&c));
+            return Ok(());
+        }
         _ => return Err(format!("no benchmark {name}")),
     };
     println!("{name}: {}", black_box(work(black_box(&c), black_box(&mut l))));

@@ -1,7 +1,7 @@
 // One input on both sides, bit for bit. Two NaNs count as equal.
 
 use crate::case::Case;
-use crate::{norm, ours, table};
+use crate::{norm, ours, table, transfers};
 use num_complex::Complex64 as c64;
 use source::{Line, Options, Stretched};
 
@@ -21,6 +21,7 @@ pub struct Counts {
     // by the refusal's number
     pub refusals: [u64; 6],
     pub norm: norm::Departures,
+    pub transfers: transfers::Counts,
 }
 
 // What lies in a lent list before the call, and behind its end.
@@ -28,12 +29,12 @@ const WORD: usize = 0x5a5a_1234_5678_9abc;
 const DOUBLE: f64 = -1.25e-77;
 const BEHIND: usize = 8;
 
-fn lent(need: usize, room: i64) -> usize {
+pub fn lent(need: usize, room: i64) -> usize {
     (need as i64 + room).max(0) as usize
 }
 
 // What a lent list of words holds after the call: the given ones as far as they fit, then what it held.
-fn words_after(length: usize, given: &[usize]) -> Vec<usize> {
+pub fn words_after(length: usize, given: &[usize]) -> Vec<usize> {
     let mut out = vec![WORD; length + BEHIND];
     let fit = given.len().min(length);
     out[..fit].copy_from_slice(&given[..fit]);
@@ -41,7 +42,7 @@ fn words_after(length: usize, given: &[usize]) -> Vec<usize> {
 }
 
 // The same of numbers: one that has no place is left out whole.
-fn numbers_after(length: usize, given: &[c64]) -> Vec<f64> {
+pub fn numbers_after(length: usize, given: &[c64]) -> Vec<f64> {
     let mut out = vec![DOUBLE; length + BEHIND];
     for (k, z) in given.iter().enumerate().take(length / 2) {
         out[2 * k] = z.re;
@@ -58,14 +59,14 @@ fn shown(x: f64) -> String {
     format!("{x:?} ({:016x})", x.to_bits())
 }
 
-fn same_words(what: &str, ours: &[usize], theirs: &[usize]) -> Result<(), String> {
+pub fn same_words(what: &str, ours: &[usize], theirs: &[usize]) -> Result<(), String> {
     match (0..theirs.len()).find(|&k| ours[k] != theirs[k]) {
         None => Ok(()),
         Some(k) => Err(format!("{what}, place {k}: ours {}, expected {}", ours[k], theirs[k])),
     }
 }
 
-fn same_doubles(what: &str, ours: &[f64], theirs: &[f64]) -> Result<(), String> {
+pub fn same_doubles(what: &str, ours: &[f64], theirs: &[f64]) -> Result<(), String> {
     match (0..theirs.len()).find(|&k| !same(ours[k], theirs[k])) {
         None => Ok(()),
         Some(k) => Err(format!(
@@ -84,8 +85,10 @@ pub fn compare(c: &Case, counts: &mut Counts) -> Result<(), String> {
     compare_in(c, [0; 8], counts)?;
     counts.inputs += 1;
     if c.room != [0; 8] {
-        compare_in(c, c.room, &mut Counts::default())?;
+        let mut others = Counts::default();
+        compare_in(c, c.room, &mut others)?;
         counts.other_lengths += 1;
+        counts.transfers.short += others.transfers.short;
     }
     Ok(())
 }
@@ -97,7 +100,7 @@ fn compare_in(c: &Case, room: [i64; 8], counts: &mut Counts) -> Result<(), Strin
     if c.rows {
         rows(c, [room[5], room[6], room[7]], counts)?;
     }
-    Ok(())
+    transfers::transfers(c, room, &mut counts.transfers)
 }
 
 fn check(c: &Case, room: i64, counts: &mut Counts) -> Result<(), String> {

@@ -14,6 +14,7 @@ mod ours;
 mod random;
 mod shrink;
 mod table;
+mod transfers;
 
 use case::Case;
 use compare::{Counts, compare};
@@ -214,6 +215,11 @@ fn report(lattices: u64, c: &Counts, near: &norm::Departures) {
     println!("maps      {:>12}", c.maps);
     println!("rows      {:>12}   as pushed; {} collected", c.rows, c.collected);
     println!("numbers   {:>12}   {} of those in rows not finite", c.numbers, c.not_finite);
+    let t = &c.transfers;
+    println!("transfers {:>12}   {} rows, forward and turned; {} lists too short, {} with a number not finite, {} not there or refused",
+        t.transfers, t.rows, t.short, t.no_number, t.none);
+    println!("weights   {:>12}   forward and turned; {} coarse permittivities; {} of these numbers not finite",
+        t.weights, t.permittivities, t.not_finite);
     departures("of the lines above", &c.norm);
     departures("of lines near the limit", near);
 }

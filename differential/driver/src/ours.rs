@@ -37,6 +37,18 @@ unsafe extern "C" {
         starts: *mut usize, starts_len: usize, columns: *mut usize, columns_len: usize,
         values: *mut f64, values_len: usize,
     ) -> usize;
+    fn weights_transfer(
+        cells: *const usize, cells_len: usize, scalars: *const f64, scalars_len: usize,
+        xn: *const f64, xn_len: usize, xh: *const f64, xh_len: usize,
+        yn: *const f64, yn_len: usize, yh: *const f64, yh_len: usize,
+        zn: *const f64, zn_len: usize, zh: *const f64, zh_len: usize,
+        level: usize,
+        out: *mut usize, out_len: usize, eps: *mut f64, eps_len: usize,
+        starts: *mut usize, starts_len: usize, columns: *mut usize, columns_len: usize,
+        values: *mut f64, values_len: usize,
+        tstarts: *mut usize, tstarts_len: usize, tcolumns: *mut usize, tcolumns_len: usize,
+        tvalues: *mut f64, tvalues_len: usize,
+    );
 }
 
 // Calls a function with the input that all of them begin with, then further arguments.
@@ -77,5 +89,18 @@ pub fn rows(c: &Case, starts: &mut [usize], columns: &mut [usize], values: &mut 
     call!(
         lattice_rows, c, c.lists[6].as_ptr(), c.lists[6].len(), starts.as_mut_ptr(), starts.len(),
         columns.as_mut_ptr(), columns.len(), values.as_mut_ptr(), values.len()
+    )
+}
+
+#[allow(clippy::too_many_arguments)]
+pub fn transfer(
+    c: &Case, level: usize, out: &mut [usize], eps: &mut [f64],
+    starts: &mut [usize], columns: &mut [usize], values: &mut [f64],
+    tstarts: &mut [usize], tcolumns: &mut [usize], tvalues: &mut [f64],
+) {
+    call!(
+        weights_transfer, c, level, out.as_mut_ptr(), out.len(), eps.as_mut_ptr(), eps.len(),
+        starts.as_mut_ptr(), starts.len(), columns.as_mut_ptr(), columns.len(), values.as_mut_ptr(), values.len(),
+        tstarts.as_mut_ptr(), tstarts.len(), tcolumns.as_mut_ptr(), tcolumns.len(), tvalues.as_mut_ptr(), tvalues.len()
     )
 }

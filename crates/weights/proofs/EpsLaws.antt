@@ -1,0 +1,419 @@
+-- Laws of the coarse permittivities: the edges of a coarse edge's cell, by the nodes in a list; the loops over a cell and over a level; that the list of
+-- nodes gives what the two levels do.
+-- Assumes nothing.
+use Prim.Native.Nat.{ℕ, zero, suc, _+_, _-_, _*_, _/_, _%_, _<_, _≤_, _^_, suc-le-suc}
+use native.Mathlib.Numerals.{add-one}
+use native.Mathlib.Omega.{arith}
+use mathlib.Core.Path.{_≡_, refl, sym, ap, _∙_}
+use mathlib.Core.Bool.{Bool, true, false, cond}
+use mathlib.Core.List.{List, [], _∷_}
+use borrow.Author.Tests.{ltb-true, lt-ltb}
+use lib.Dec.{ltb, T}
+use lib.IntN.{pos}
+use lib.ListN.{length, getD}
+use lib.Ieee.{Float, binary64, ofInt, inFloat}
+use Rattle.numbers.specs.declared.C64.{C64}
+use Rattle.numbers.specs.Complex.{oneF, zeroNumber, sum, realOver}
+use Rattle.numbers.specs.Places.{numberAt, setNumber}
+use Rattle.numbers.proofs.Laws.{length-setNumber, number-other}
+use Rattle.lattice.specs.declared.grid.Grid3d.{Grid3d}
+use Rattle.lattice.specs.declared.grid.Position.{Position}
+use Rattle.lattice.specs.declared.levels.Three.{Three}
+use Rattle.lattice.specs.Grid.{axis3, nOf, indexOf, atOf, unknownsOf, placeOn, movedTo, Limits, Inside}
+use Rattle.lattice.specs.Lattice.{Medium, tabulate}
+use Rattle.lattice.specs.Line.{endsOf, before, Rises}
+use Rattle.lattice.specs.Rows.{summed}
+use Rattle.lattice.proofs.GridLaws.{axis-both, axis-each, n-most, place-inside, moved-inside, index-below, at-inside, unknowns-most}
+use Rattle.lattice.proofs.LineLaws.{length-ends, nodes-at, rises-below}
+use Rattle.lattice.proofs.RowLaws.{small-float}
+use Rattle.lattice.proofs.TabulateLaws.{length-tabulate, tabulate-at-0, tabulate-agree}
+use Rattle.weights.proofs.ListLaws.{laid-numbers-length, read-back}
+use Rattle.weights.specs.Lists.{laidBy, laidNumbers, readBy, allFinite}
+use Rattle.weights.specs.TwoLevels.{
+  TwoLevels,
+  fineLine,
+  coarseLine,
+  fineCells,
+  coarseCells,
+  nodeOn,
+  gridWith,
+  fineGrid,
+  coarseGrid,
+  twoOf,
+}
+use Rattle.weights.specs.Interpolate.{whole}
+use Rattle.weights.specs.CoarseEps.{onFine, fineEdge, cellEdges, epsReads, inverted, harmonic, coarseEps}
+use Rattle.weights.specs.Tables.{
+  nodeNo,
+  HeldThree,
+  Paired,
+  readFrom,
+  onFineIn,
+  edgeAlong,
+  cellEdgesIn,
+  cellFirst,
+  cellLast,
+  coarseEpsIn,
+  LineInside,
+  NestedIn,
+  ChainRoom,
+}
+
+-- ---- a loop over a cell: the sum of the rest, from place m on, comes to the whole
+
+pub record Adding (g : Grid3d) (xs : List Float) (from : ℕ) (p : Position) (first last m : ℕ) (s : C64) : Type 0 where
+  pub same : summed (inverted (readFrom xs from)) s (cellEdgesIn g p m (last - m))
+      ≡ summed (inverted (readFrom xs from)) zeroNumber (cellEdgesIn g p first (last - first))
+
+pub adding-start : {g : Grid3d} {xs : List Float} {from : ℕ} {p : Position} {first last : ℕ} {s : C64} → s ≡ zeroNumber → Adding g xs from p first last first s
+adding-start e = record { same = rw e }
+
+module _ {g : Grid3d} {xs : List Float} {from : ℕ} {p : Position} {first last m : ℕ} {s : C64} (a : Adding g xs from p first last m s) where
+  pub adding-turn : {q : Position} {c : ℕ} {v w s′ : C64} → m < last → q ≡ movedTo p (p .component) m → c ≡ indexOf g q
+      → v ≡ numberAt xs (from + c) → w ≡ realOver oneF v → s′ ≡ sum s w → Adding g xs from p first last (m + 1) s′
+  unfolding cellEdgesIn tabulate summed inverted readFrom edgeAlong
+  adding-turn {q} {c} {v} {w} {s′} h e₁ e₂ e₃ e₄ e₅ =
+      let e : last - m ≡ suc (last - (m + 1)) = omega arith in
+      record { same = rw (e₅, e₄, e₃, e₂, e₁, add-one m) (rw (e, add-one m) at (a .same)) }
+
+  pub adding-end : last ≤ m → s ≡ summed (inverted (readFrom xs from)) zeroNumber (cellEdgesIn g p first (last - first))
+  unfolding cellEdgesIn tabulate summed
+  adding-end h = let e : last - m ≡ 0 = omega arith in rw e at (a .same)
+
+-- the position of place m along, and the number of its edge
+pub along-inside : {g : Grid3d} {p q : Position} {last m : ℕ} → LineInside g p last → m < last → q ≡ movedTo p (p .component) m → Inside g q
+along-inside {g} {p} {q} {last} {m} h b e = rw e (h .each-in m b)
+
+pub along-low : {g : Grid3d} {p q : Position} {last m c : ℕ} → Limits g → LineInside g p last → m < last → q ≡ movedTo p (p .component) m
+    → c ≡ indexOf g q → c < unknownsOf g
+along-low l h b e d = rw d (index-below l (along-inside h b e))
+
+-- ---- the cell of a coarse edge, by the nodes in a list
+
+module _ {gf gc : Grid3d} {nn : List ℕ} {p : Position} (d : NestedIn gf gc nn) (h : Inside gc p) where
+  pub fine-inside : Inside gf (onFineIn nn p)
+  unfolding onFineIn nOf axis3
+  fine-inside =
+      let x : 65 * 0 + p .i ≡ p .i = omega arith in
+      record {
+        c-in = h .c-in;
+        i-in = rw x at (d .inside 0 (p .i) (omega arith) (h .i-in));
+        j-in = d .inside 1 (p .j) (omega arith) (h .j-in);
+        k-in = d .inside 2 (p .k) (omega arith) (h .k-in);
+      }
+
+  pub cell-most : cellLast nn p ≤ nOf gf (p .component)
+  unfolding cellLast
+  cell-most = d .ends-in (p .component) (placeOn p (p .component)) (h .c-in) (place-inside h (p .component))
+
+  pub cell-rises : cellFirst nn p ≤ cellLast nn p
+  unfolding cellFirst cellLast
+  cell-rises = d .rise (p .component) (placeOn p (p .component)) (h .c-in) (place-inside h (p .component))
+
+  pub cell-inside : LineInside gf (onFineIn nn p) (cellLast nn p)
+  unfolding onFineIn
+  cell-inside =
+      record {
+        c-in = h .c-in;
+        each-in = λ m b. moved-inside fine-inside (p .component) m (omega (arith, cell-most));
+      }
+
+-- what the code knows of a coarse edge: its position p, and the place m along its component
+pub record Cell (gf gc : Grid3d) (nn : List ℕ) (p : Position) (m : ℕ) : Type 0 where
+  pub fine-limits : Limits gf
+  pub coarse-limits : Limits gc
+  pub nested : NestedIn gf gc nn
+  pub inside : Inside gc p
+  pub place : m ≡ placeOn p (p .component)
+
+length-cell : (g : Grid3d) (p : Position) (first n : ℕ) → length (cellEdgesIn g p first n) ≡ n
+unfolding cellEdgesIn
+length-cell g p first n = length-tabulate (edgeAlong g p) n first
+
+-- the cell's two nodes
+module _ {gf gc : Grid3d} {nn : List ℕ} {p : Position} {m : ℕ} (c : Cell gf gc nn p m) where
+  -- they are in the list
+  pub node-index : 65 * p .component + m + 1 < 195
+  node-index = omega (arith, c .inside .c-in, c .place, place-inside (c .inside) (p .component), n-most (c .coarse-limits) (p .component))
+
+  first-is : getD nn (65 * p .component + m) 0 ≡ cellFirst nn p
+  unfolding cellFirst
+  first-is = rw (c .place)
+
+  last-is : getD nn (65 * p .component + m + 1) 0 ≡ cellLast nn p
+  unfolding cellLast
+  last-is = rw (c .place)
+
+  pub line-inside : {q : Position} → q ≡ onFineIn nn p → LineInside gf q (getD nn (65 * p .component + m + 1) 0)
+  line-inside o = rw (o, last-is) (cell-inside (c .nested) (c .inside))
+
+  pub nodes-rising : getD nn (65 * p .component + m) 0 ≤ getD nn (65 * p .component + m + 1) 0
+  nodes-rising = rw (first-is, last-is) (cell-rises (c .nested) (c .inside))
+
+  pub count-float : T (inFloat binary64 (pos (getD nn (65 * p .component + m + 1) 0 - getD nn (65 * p .component + m) 0)))
+  count-float =
+      small-float (getD nn (65 * p .component + m + 1) 0 - getD nn (65 * p .component + m) 0)
+      (omega (arith, last-is, cell-most (c .nested) (c .inside), n-most (c .fine-limits) (p .component)))
+
+  pub eps-is : (xs : List Float) (from r : ℕ) {q : Position} {s v : C64} → p ≡ atOf gc r → q ≡ onFineIn nn p
+      → s
+      ≡ summed (inverted (readFrom xs from)) zeroNumber
+      (cellEdgesIn gf q (getD nn (65 * p .component + m) 0) (getD nn (65 * p .component + m + 1) 0 - getD nn (65 * p .component + m) 0))
+      → v ≡ realOver (ofInt binary64 (pos (getD nn (65 * p .component + m + 1) 0 - getD nn (65 * p .component + m) 0))) s
+      → v ≡ coarseEpsIn gf gc nn (readFrom xs from) r
+  unfolding coarseEpsIn harmonic whole
+  eps-is xs from r {q} {s} {v} o u w x =
+      let first : ℕ = getD nn (65 * p .component + m) 0 in
+      let last : ℕ = getD nn (65 * p .component + m + 1) 0 in
+      let l : length (cellEdgesIn gf q first (last - first)) ≡ last - first = length-cell gf q first (last - first) in
+      let k : v ≡ harmonic (readFrom xs from) (cellEdgesIn gf q first (last - first)) = rw (l, ← w) x in
+      rw (← o, ← first-is, ← last-is, ← u) k
+
+-- ---- what is read: the edges of the fine grid alone
+
+module _ (f g : ℕ → C64) where
+  summed-agree : (e : ℕ → ℕ) (n k : ℕ) (s : C64) → ((m : ℕ) → k ≤ m → m < k + n → f (e m) ≡ g (e m))
+      → summed (inverted f) s (tabulate e n k) ≡ summed (inverted g) s (tabulate e n k)
+  unfolding summed tabulate inverted
+  summed-agree e zero k s h = refl
+  summed-agree e (suc n) k s h =
+      ap (λ (v : C64). summed (inverted f) (sum s (realOver oneF v)) (tabulate e n (suc k))) (h k (omega arith) (omega arith))
+      ∙ summed-agree e n (suc k) (sum s (realOver oneF (g (e k)))) (λ m a b. h m (omega arith) (omega arith))
+
+  eps-agree : {gf gc : Grid3d} {nn : List ℕ} → Limits gf → Limits gc → NestedIn gf gc nn → ((c : ℕ) → c < unknownsOf gf → f c ≡ g c)
+      → (r : ℕ) → r < unknownsOf gc → coarseEpsIn gf gc nn f r ≡ coarseEpsIn gf gc nn g r
+  unfolding coarseEpsIn harmonic cellEdgesIn edgeAlong
+  eps-agree {gf} {gc} {nn} lf lc d h r b =
+      let p : Position = atOf gc r in
+      let i : Inside gc p = at-inside lc r b in
+      let k : LineInside gf (onFineIn nn p) (cellLast nn p) = cell-inside d i in
+      ap (realOver (whole (length (cellEdgesIn gf (onFineIn nn p) (cellFirst nn p) (cellLast nn p - cellFirst nn p)))))
+      (summed-agree (edgeAlong gf (onFineIn nn p)) (cellLast nn p - cellFirst nn p) (cellFirst nn p) zeroNumber
+      (λ m a c. h (edgeAlong gf (onFineIn nn p) m) (index-below lf (k .each-in m (omega (arith, cell-rises d i))))))
+
+-- ---- a loop over a level: f 0, .., f (n - 1) are laid from place `to` on, r of them done. The rest comes to the whole, and before `to` all is as it was.
+
+pub record Chaining (f : ℕ → C64) (n to : ℕ) (xs ys : List Float) (r : ℕ) : Type 0 where
+  pub high : r ≤ n
+  pub rest : laidNumbers ys (to + r) (tabulate f (n - r) r) ≡ laidNumbers xs to (tabulate f n 0)
+  pub long : length ys ≡ length xs
+  pub left : (j : ℕ) → j < to → numberAt ys j ≡ numberAt xs j
+
+pub chaining-start : {f : ℕ → C64} {n to : ℕ} {xs : List Float} → Chaining f n to xs xs 0
+chaining-start {f} {n} {to} {xs} =
+    let a : to + 0 ≡ to = omega arith in
+    let b : n - 0 ≡ n = omega arith in
+    record { high = omega arith; rest = rw (a, b); long = refl; left = λ j h. refl }
+
+chaining-one : {f : ℕ → C64} {n to : ℕ} {xs ys zs : List Float} {r : ℕ} {v : C64} → Chaining f n to xs ys r → r < n → v ≡ f r
+    → zs ≡ setNumber ys (to + r) v → Chaining f n to xs zs (r + 1)
+unfolding laidBy tabulate
+chaining-one {f} {n} {to} {xs} {ys} {zs} {r} {v} p h e q =
+    let a : n - r ≡ suc (n - (r + 1)) = omega arith in
+    let b : to + (r + 1) ≡ suc (to + r) = omega arith in
+    record {
+      high = omega arith;
+      rest = rw (q, e, b, add-one r) (rw (a, add-one r) at (p .rest));
+      long = ap length q ∙ length-setNumber ys (to + r) v ∙ p .long;
+      left = λ j k. ap (λ (ws : List Float). numberAt ws j) q ∙ number-other ys (to + r) j v (omega arith) ∙ p .left j k;
+    }
+
+-- a turn: what the next one reads is before `to`
+pub chaining-turn : {gf gc : Grid3d} {nn : List ℕ} {n from to r : ℕ} {xs ys zs : List Float} {v : C64} → Limits gf → Limits gc → NestedIn gf gc nn
+    → ChainRoom (unknownsOf gf) (unknownsOf gc) from to xs → Chaining (coarseEpsIn gf gc nn (readFrom xs from)) n to xs ys r
+    → r < n → n ≡ unknownsOf gc → v ≡ coarseEpsIn gf gc nn (readFrom ys from) r → zs ≡ setNumber ys (to + r) v
+    → Chaining (coarseEpsIn gf gc nn (readFrom xs from)) n to xs zs (r + 1)
+unfolding readFrom
+chaining-turn {gf} {gc} {nn} {n} {from} {to} {r} {xs} {ys} lf lc d m p h e q z =
+    chaining-one p h
+    (q ∙ eps-agree (readFrom ys from) (readFrom xs from) lf lc d (λ c b. p .left (from + c) (omega (arith, m .apart))) r (omega arith))
+    z
+
+pub chaining-end : {f : ℕ → C64} {n m to : ℕ} {xs ys : List Float} {r : ℕ} → Chaining f n to xs ys r → n ≤ r → n ≡ m
+    → ys ≡ laidNumbers xs to (tabulate f m 0)
+unfolding laidBy tabulate
+chaining-end {f} {n} {m} {to} {xs} {ys} {r} p h e =
+    let a : n - r ≡ 0 = omega arith in
+    rw e at (rw a at (p .rest))
+
+-- the list still has all that is read
+pub chaining-room : {f : ℕ → C64} {n m k from to r : ℕ} {xs ys : List Float} → ChainRoom n m from to xs → Chaining f k to xs ys r
+    → (from ≤ 2 ^ 32) × (2 * (from + n) ≤ length ys)
+chaining-room m p = (omega (arith, m .apart, m .low), omega (arith, m .apart, m .room, p .long))
+
+-- ---- from the levels
+
+-- the grid of a level, by the records of its lines
+grid-is : (g : Grid3d) (s : Three) → HeldThree s
+    → gridWith g (s .x .cells) (s .y .cells) (s .z .cells)
+    ≡ gridWith g (length (endsOf (s .x)) - 1) (length (endsOf (s .y)) - 1) (length (endsOf (s .z)) - 1)
+grid-is g s h =
+    let x : s .x .cells ≡ length (endsOf (s .x)) - 1 = omega (arith, length-ends (s .x) (h .x-held)) in
+    let y : s .y .cells ≡ length (endsOf (s .y)) - 1 = omega (arith, length-ends (s .y) (h .y-held)) in
+    let z : s .z .cells ≡ length (endsOf (s .z)) - 1 = omega (arith, length-ends (s .z) (h .z-held)) in
+    λ i. gridWith g (x i) (y i) (z i)
+
+module _ (l : Medium) (fine coarse : Three) where
+  pub fine-is : HeldThree fine → gridWith (l .grid) (fine .x .cells) (fine .y .cells) (fine .z .cells) ≡ fineGrid (twoOf l fine coarse)
+  unfolding fineGrid fineCells fineLine twoOf axis3
+  fine-is = grid-is (l .grid) fine
+
+  pub coarse-is : HeldThree coarse → gridWith (l .grid) (coarse .x .cells) (coarse .y .cells) (coarse .z .cells) ≡ coarseGrid (twoOf l fine coarse)
+  unfolding coarseGrid coarseCells coarseLine twoOf axis3
+  coarse-is = grid-is (l .grid) coarse
+
+-- the ends before a later place are at least as many
+before-more : (d e : ℕ) → d ≤ e → (es : List ℕ) → before d es ≤ before e es
+unfolding before
+before-more d e h [] = omega arith
+before-more d e h (f ∷ es) = go (ltb f d) refl (before-more d e h es)
+  where
+    go : (s : Bool) → ltb f d ≡ s → before d es ≤ before e es → cond s (suc (before d es)) 0 ≤ before e (f ∷ es)
+    go false q r = omega arith
+    go true q r = rw (lt-ltb f e (omega (arith, ltb-true f d q))) (suc-le-suc r)
+
+-- the cells of an axis
+axis-cells : (g : Grid3d) (x y z : List ℕ) (a : ℕ) → nOf (gridWith g (length x - 1) (length y - 1) (length z - 1)) a ≡ length (axis3 a x y z) - 1
+unfolding nOf gridWith
+axis-cells g x y z a = axis-both (λ (n : ℕ) (es : List ℕ). n ≡ length es - 1) a refl refl refl
+
+fine-n : (t : TwoLevels) (a : ℕ) → nOf (fineGrid t) a ≡ fineCells t a
+unfolding fineGrid fineCells fineLine axis3
+fine-n t a = axis-cells (t .base .grid) (t .fineX) (t .fineY) (t .fineZ) a
+
+coarse-n : (t : TwoLevels) (a : ℕ) → nOf (coarseGrid t) a ≡ coarseCells t a
+unfolding coarseGrid coarseCells coarseLine axis3
+coarse-n t a = axis-cells (t .base .grid) (t .coarseX) (t .coarseY) (t .coarseZ) a
+
+-- the list of nodes has node m of axis a at 65 a + m
+node-at : (t : TwoLevels) (a m : ℕ) → a < 3 → m < 65 → getD (tabulate (nodeNo t) 195 0) (65 * a + m) 0 ≡ nodeOn t a m
+unfolding nodeNo
+node-at t a m h b =
+    let e : (65 * a + m) / 65 ≡ a = omega arith in
+    let d : (65 * a + m) % 65 ≡ m = omega arith in
+    tabulate-at-0 (nodeNo t) 195 (65 * a + m) 0 (omega arith) ∙ (λ i. nodeOn t (e i) (d i))
+
+-- the nodes of a rising line rise
+nodes-rise : (t : TwoLevels) (a m : ℕ) → Rises (coarseLine t a) → m < coarseCells t a → nodeOn t a m ≤ nodeOn t a (m + 1)
+unfolding nodeOn coarseCells
+nodes-rise t a m r h =
+    let es = coarseLine t a in
+    let fs = fineLine t a in
+    let u : getD es m 0 < getD es (m + 1) 0 = rises-below es r m (m + 1) (omega arith) (omega arith) in
+    let v : before (getD es m 0) fs ≤ before (getD es (m + 1) 0) fs = before-more (getD es m 0) (getD es (m + 1) 0) (omega arith) fs in
+    omega (arith, nodes-at fs es m (omega arith), nodes-at fs es (m + 1) (omega arith))
+
+module _ {l : Medium} {fine coarse : Three} (p : Paired l fine coarse) where
+  line-rises : (a : ℕ) → Rises (coarseLine (twoOf l fine coarse) a)
+  unfolding coarseLine twoOf
+  line-rises a = axis-each Rises a (p .x-rises) (p .y-rises) (p .z-rises)
+
+  pub nodes-nested : NestedIn (fineGrid (twoOf l fine coarse)) (coarseGrid (twoOf l fine coarse)) (tabulate (nodeNo (twoOf l fine coarse)) 195 0)
+  nodes-nested =
+      let s : TwoLevels = twoOf l fine coarse in
+      let few : (a : ℕ) → nOf (coarseGrid s) a ≤ 64 = n-most (p .coarse-limits) in
+      record {
+        long = length-tabulate (nodeNo s) 195 0;
+        inside = λ a m b h.
+            rw (node-at s a m b (omega (arith, few a)), fine-n s a) (p .nested a m (omega (arith, coarse-n s a)));
+        ends-in = λ a m b h.
+            let e : 65 * a + m + 1 ≡ 65 * a + (m + 1) = omega arith in
+            rw (e, node-at s a (m + 1) b (omega (arith, few a)), fine-n s a) (p .ended a (m + 1) (omega (arith, coarse-n s a)));
+        rise = λ a m b h.
+            let e : 65 * a + m + 1 ≡ 65 * a + (m + 1) = omega arith in
+            rw (e, node-at s a (m + 1) b (omega (arith, few a)), node-at s a m b (omega (arith, few a)))
+            (nodes-rise s a m (line-rises a) (omega (arith, coarse-n s a)));
+      }
+
+-- the nodes of a position, and its permittivity
+module _ (t : TwoLevels) (lc : Limits (coarseGrid t)) where
+  on-fine-is : {p : Position} → Inside (coarseGrid t) p → onFineIn (tabulate (nodeNo t) 195 0) p ≡ onFine t p
+  unfolding onFineIn onFine
+  on-fine-is {p} h =
+      let a : getD (tabulate (nodeNo t) 195 0) (65 * 0 + p .i) 0 ≡ nodeOn t 0 (p .i) = node-at t 0 (p .i) (omega arith) (omega (arith, h .i-in, lc .x-most)) in
+      let e : 65 * 0 + p .i ≡ p .i = omega arith in
+      let x : getD (tabulate (nodeNo t) 195 0) (p .i) 0 ≡ nodeOn t 0 (p .i) = rw e at a in
+      let y : getD (tabulate (nodeNo t) 195 0) (65 + p .j) 0 ≡ nodeOn t 1 (p .j) = node-at t 1 (p .j) (omega arith) (omega (arith, h .j-in, lc .y-most)) in
+      let z : getD (tabulate (nodeNo t) 195 0) (130 + p .k) 0 ≡ nodeOn t 2 (p .k) = node-at t 2 (p .k) (omega arith) (omega (arith, h .k-in, lc .z-most)) in
+      λ i. record { component = p .component; i = x i; j = y i; k = z i }
+
+  cell-is : {p : Position} → Inside (coarseGrid t) p
+      → let nn = tabulate (nodeNo t) 195 0 in cellEdgesIn (fineGrid t) (onFineIn nn p) (cellFirst nn p) (cellLast nn p - cellFirst nn p) ≡ cellEdges t p
+  unfolding cellEdgesIn cellEdges cellFirst cellLast edgeAlong fineEdge onFine
+  cell-is {p} h =
+      let c : ℕ = p .component in
+      let m : ℕ = placeOn p c in
+      let b : m < 64 = omega (arith, place-inside h c, n-most lc c) in
+      let e : 65 * c + m + 1 ≡ 65 * c + (m + 1) = omega arith in
+      rw (e, node-at t c m (h .c-in) (omega arith), node-at t c (m + 1) (h .c-in) (omega arith), on-fine-is h)
+
+  eps-same : (f : ℕ → C64) (r : ℕ) → r < unknownsOf (coarseGrid t) → coarseEpsIn (fineGrid t) (coarseGrid t) (tabulate (nodeNo t) 195 0) f r ≡ coarseEps t f r
+  unfolding coarseEpsIn coarseEps epsReads
+  eps-same f r h = ap (harmonic f) (cell-is (at-inside lc r h))
+
+  -- those of the whole level
+  level-same : (f : ℕ → C64)
+      → tabulate (coarseEpsIn (fineGrid t) (coarseGrid t) (tabulate (nodeNo t) 195 0) f) (unknownsOf (coarseGrid t)) 0
+      ≡ tabulate (coarseEps t f) (unknownsOf (coarseGrid t)) 0
+  level-same f =
+      tabulate-agree (coarseEpsIn (fineGrid t) (coarseGrid t) (tabulate (nodeNo t) 195 0) f) (coarseEps t f) (unknownsOf (coarseGrid t)) zeroNumber (eps-same f)
+
+-- ---- the whole: the code's grids and nodes are those of the levels, and the list has room
+
+pub record Chain (l : Medium) (fine coarse : Three) (gf gc : Grid3d) (nn : List ℕ) (from to : ℕ) (xs : List Float) : Type 0 where
+  pub paired : Paired l fine coarse
+  pub room : ChainRoom (unknownsOf (fineGrid (twoOf l fine coarse))) (unknownsOf (coarseGrid (twoOf l fine coarse))) from to xs
+  pub fine-grid : gf ≡ fineGrid (twoOf l fine coarse)
+  pub coarse-grid : gc ≡ coarseGrid (twoOf l fine coarse)
+  pub node-list : nn ≡ tabulate (nodeNo (twoOf l fine coarse)) 195 0
+
+pub chain : {l : Medium} {fine coarse : Three} {gf gc : Grid3d} {nn : List ℕ} {from to : ℕ} {xs : List Float} → Paired l fine coarse
+    → ChainRoom (unknownsOf (fineGrid (twoOf l fine coarse))) (unknownsOf (coarseGrid (twoOf l fine coarse))) from to xs
+    → gf ≡ gridWith (l .grid) (fine .x .cells) (fine .y .cells) (fine .z .cells)
+    → gc ≡ gridWith (l .grid) (coarse .x .cells) (coarse .y .cells) (coarse .z .cells)
+    → nn ≡ tabulate (nodeNo (twoOf l fine coarse)) 195 0 → Chain l fine coarse gf gc nn from to xs
+chain {l} {fine} {coarse} p m a b c =
+    record {
+      paired = p;
+      room = m;
+      fine-grid = a ∙ fine-is l fine coarse (p .fine-held);
+      coarse-grid = b ∙ coarse-is l fine coarse (p .coarse-held);
+      node-list = c;
+    }
+
+module _ {l : Medium} {fine coarse : Three} {gf gc : Grid3d} {nn : List ℕ} {from to : ℕ} {xs : List Float} (q : Chain l fine coarse gf gc nn from to xs) where
+  pub fine-in : Limits gf
+  fine-in = rw (q .fine-grid) (q .paired .fine-limits)
+
+  pub coarse-in : Limits gc
+  coarse-in = rw (q .coarse-grid) (q .paired .coarse-limits)
+
+  pub nested-in : NestedIn gf gc nn
+  nested-in = rw (q .fine-grid, q .coarse-grid, q .node-list) (nodes-nested (q .paired))
+
+  pub chain-room : ChainRoom (unknownsOf gf) (unknownsOf gc) from to xs
+  chain-room = rw (q .fine-grid, q .coarse-grid) (q .room)
+
+  -- what the code lays, and how many
+  laid-eps : tabulate (coarseEpsIn gf gc nn (readFrom xs from)) (unknownsOf gc) 0
+      ≡ tabulate (coarseEps (twoOf l fine coarse) (readFrom xs from)) (unknownsOf (coarseGrid (twoOf l fine coarse))) 0
+  laid-eps =
+      rw (q .fine-grid, q .coarse-grid, q .node-list) (level-same (twoOf l fine coarse) (q .paired .coarse-limits) (readFrom xs from))
+
+  -- the list once all are laid
+  module _ {ys : List Float} (e : ys ≡ laidNumbers xs to (tabulate (coarseEpsIn gf gc nn (readFrom xs from)) (unknownsOf gc) 0)) where
+    pub eps-laid : ys ≡ laidNumbers xs to (tabulate (coarseEps (twoOf l fine coarse) (readFrom xs from)) (unknownsOf (coarseGrid (twoOf l fine coarse))) 0)
+    eps-laid = e ∙ ap (laidNumbers xs to) laid-eps
+
+    pub eps-room : {n : ℕ} → n ≡ unknownsOf gc → (to + n < 2 ^ 40) × (2 * (to + n) ≤ length ys)
+    eps-room d =
+        let k : length ys ≡ length xs = ap length e ∙ laid-numbers-length xs to (tabulate (coarseEpsIn gf gc nn (readFrom xs from)) (unknownsOf gc) 0) in
+        (omega (arith, chain-room .low, unknowns-most coarse-in), omega (arith, chain-room .room))
+
+    pub eps-finite : {n : ℕ} {b : Bool} → n ≡ unknownsOf gc → b ≡ allFinite (readBy numberAt ys to n)
+        → b ≡ allFinite (tabulate (coarseEps (twoOf l fine coarse) (readFrom xs from)) (unknownsOf (coarseGrid (twoOf l fine coarse))) 0)
+    eps-finite {n} {b} d f =
+        let vs : List C64 = tabulate (coarseEpsIn gf gc nn (readFrom xs from)) (unknownsOf gc) 0 in
+        let o : n ≡ length vs = d ∙ sym (length-tabulate (coarseEpsIn gf gc nn (readFrom xs from)) (unknownsOf gc) 0) in
+        let u : readBy numberAt ys to n ≡ vs = (λ i. readBy numberAt (e i) to (o i)) ∙ read-back xs to vs (omega (arith, chain-room .room)) in
+        f ∙ ap allFinite (u ∙ laid-eps)

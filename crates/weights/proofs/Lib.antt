@@ -1,0 +1,17 @@
+pub mod EachLaws
+pub mod ListLaws
+pub mod ProductLaws
+pub mod RowTheorems
+pub mod Tutorial
+pub mod TransferLaws
+pub mod PairLaws
+pub mod NoRepeats
+pub mod InterpolateLaws
+pub mod EpsLaws
+pub mod RepeatLaws
+pub mod RowLaws
+pub mod TableLaws
+pub mod SlotLaws
+pub mod MeaningLaws
+pub mod WholeLaws
+pub mod Cases

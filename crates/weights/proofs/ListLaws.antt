@@ -1,0 +1,240 @@
+-- Lists that are laid over others, rows one behind another, and loops that lay a row at each turn.
+-- Assumes nothing.
+use Prim.Native.Nat.{ℕ, zero, suc, _+_, _-_, _*_, _<_, _≤_}
+use mathlib.Core.Path.{_≡_, refl, sym, ap, _∙_}
+use mathlib.Core.Bool.{Bool, true, false, _&&_}
+use mathlib.Core.List.{List, [], _∷_, _++_}
+use native.Mathlib.Omega.{arith}
+use native.Mathlib.Numerals.{add-one}
+use native.Mathlib.Nat.{mul-suc}
+use borrow.Author.Tests.{ltb-true, ltb-false}
+use lib.Dec.{ltb}
+use lib.ListN.{length, getD, set, length-set, length-append}
+use lib.Seq.{ext-getD, getD-set-same, getD-set-other}
+use lib.Ieee.{Float}
+use Rattle.numbers.specs.declared.C64.{C64}
+use Rattle.numbers.specs.Complex.{finite}
+use Rattle.numbers.specs.Places.{places, numberAt, setNumber}
+use Rattle.numbers.proofs.Laws.{length-setNumber, number-same, number-other, and-true, and-false}
+use Rattle.lattice.specs.Lattice.{tabulate}
+use Rattle.weights.specs.Lists.{rows, laidBy, laid, laidNumbers, Laid, readBy, allFinite}
+use Rattle.weights.specs.Transfer.{startOf, startsOf}
+
+-- ---- values laid over a list: none, one, one list of them behind another
+
+-- the second list begins at j, behind the first
+pub laid-behind-laid : {L A : Type 0} (put : L → ℕ → A → L) (xs : L) (k : ℕ) (vs ws : List A) (j : ℕ) → j ≡ k + length vs
+    → laidBy put xs k (vs ++ ws) ≡ laidBy put (laidBy put xs k vs) j ws
+unfolding laidBy
+laid-behind-laid put xs k [] ws j e = let d : k ≡ j = omega arith in ap (λ (i : ℕ). laidBy put xs i ws) d
+laid-behind-laid put xs k (v ∷ vs) ws j e = laid-behind-laid put (put xs k v) (suc k) vs ws j (omega arith)
+
+module _ {L A : Type 0} {put : L → ℕ → A → L} where
+  pub laid-none : {xs : L} {k : ℕ} → Laid put xs k [] xs k
+  unfolding laidBy
+  laid-none = record { list = refl; next = omega arith }
+
+  pub laid-one : {xs ys : L} {k r : ℕ} {v : A} → ys ≡ put xs k v → r ≡ k + 1 → Laid put xs k (v ∷ []) ys r
+  unfolding laidBy
+  laid-one p e = record { list = p; next = e }
+
+  pub laid-append : {xs ys zs : L} {k r s : ℕ} {vs ws : List A}
+      → Laid put xs k vs ys r → Laid put ys r ws zs s → Laid put xs k (vs ++ ws) zs s
+  laid-append {xs} {ys} {zs} {k} {r} {s} {vs} {ws} p q =
+      record {
+        list = q .list ∙ ap (λ (l : L). laidBy put l r ws) (p .list) ∙ sym (laid-behind-laid put xs k vs ws r (p .next));
+        next = omega (arith, length-append vs ws);
+      }
+
+-- ---- whole numbers: the length, and what is read inside, before and behind
+
+pub laid-length : (xs : List ℕ) (k : ℕ) (vs : List ℕ) → length (laid xs k vs) ≡ length xs
+unfolding laidBy
+laid-length xs k [] = refl
+laid-length xs k (v ∷ vs) = laid-length (set xs k v) (suc k) vs ∙ length-set xs k v
+
+pub laid-before : (xs : List ℕ) (k : ℕ) (vs : List ℕ) (j : ℕ) → j < k → getD (laid xs k vs) j 0 ≡ getD xs j 0
+unfolding laidBy
+laid-before xs k [] j h = refl
+laid-before xs k (v ∷ vs) j h = laid-before (set xs k v) (suc k) vs j (omega arith) ∙ getD-set-other xs k j v 0 (omega arith)
+
+pub laid-behind : (xs : List ℕ) (k : ℕ) (vs : List ℕ) (j : ℕ) → k + length vs ≤ j → getD (laid xs k vs) j 0 ≡ getD xs j 0
+unfolding laidBy
+laid-behind xs k [] j h = refl
+laid-behind xs k (v ∷ vs) j h = laid-behind (set xs k v) (suc k) vs j (omega arith) ∙ getD-set-other xs k j v 0 (omega arith)
+
+laid-inside : (xs : List ℕ) (k : ℕ) (vs : List ℕ) (j i : ℕ) → i ≡ k + j → j < length vs → k + length vs ≤ length xs
+    → getD (laid xs k vs) i 0 ≡ getD vs j 0
+unfolding laidBy
+laid-inside xs k [] j i e h r = absurd (omega arith)
+laid-inside xs k (v ∷ vs) zero i e h r =
+    let d : i ≡ k = omega arith in
+    rw d (laid-before (set xs k v) (suc k) vs k (omega arith) ∙ getD-set-same xs k v 0 (omega arith))
+laid-inside xs k (v ∷ vs) (suc j) i e h r = laid-inside (set xs k v) (suc k) vs j i (omega arith) (omega arith) (omega (arith, length-set xs k v))
+
+pub laid-at : (xs : List ℕ) (k : ℕ) (vs : List ℕ) (j : ℕ) → j < length vs → k + length vs ≤ length xs → getD (laid xs k vs) (k + j) 0 ≡ getD vs j 0
+laid-at xs k vs j h r = laid-inside xs k vs j (k + j) refl h r
+
+-- a list that has the values inside, and else what was there, is the laid one
+pub laid-is : (xs ys : List ℕ) (k : ℕ) (vs : List ℕ)
+    → length ys ≡ length xs → k + length vs ≤ length xs
+    → ((j : ℕ) → j < length vs → getD ys (k + j) 0 ≡ getD vs j 0)
+    → ((j : ℕ) → j < k → getD ys j 0 ≡ getD xs j 0)
+    → ((j : ℕ) → k + length vs ≤ j → getD ys j 0 ≡ getD xs j 0)
+    → ys ≡ laid xs k vs
+laid-is xs ys k vs l r inside before behind =
+    ext-getD 0 ys (laid xs k vs) (l ∙ sym (laid-length xs k vs)) (λ i b. go i (ltb i k) refl (ltb i (k + length vs)) refl)
+  where
+    go : (i : ℕ) (a : Bool) → ltb i k ≡ a → (b : Bool) → ltb i (k + length vs) ≡ b → getD ys i 0 ≡ getD (laid xs k vs) i 0
+    go i true p b q = let h : i < k = ltb-true i k p in before i h ∙ sym (laid-before xs k vs i h)
+    go i false p false q = let h : k + length vs ≤ i = ltb-false i (k + length vs) q in behind i h ∙ sym (laid-behind xs k vs i h)
+    go i false p true q =
+        let d : i ≡ k + (i - k) = omega (arith, ltb-false i k p) in
+        let h : i - k < length vs = omega (arith, ltb-false i k p, ltb-true i (k + length vs) q) in
+        ap (λ (m : ℕ). getD ys m 0) d ∙ inside (i - k) h ∙ sym (laid-inside xs k vs (i - k) i d h r)
+
+-- ---- numbers: the same
+
+pub laid-numbers-length : (xs : List Float) (k : ℕ) (vs : List C64) → length (laidNumbers xs k vs) ≡ length xs
+unfolding laidBy
+laid-numbers-length xs k [] = refl
+laid-numbers-length xs k (v ∷ vs) = laid-numbers-length (setNumber xs k v) (suc k) vs ∙ length-setNumber xs k v
+
+pub laid-numbers-before : (xs : List Float) (k : ℕ) (vs : List C64) (j : ℕ) → j < k → numberAt (laidNumbers xs k vs) j ≡ numberAt xs j
+unfolding laidBy
+laid-numbers-before xs k [] j h = refl
+laid-numbers-before xs k (v ∷ vs) j h =
+    laid-numbers-before (setNumber xs k v) (suc k) vs j (omega arith) ∙ number-other xs k j v (omega arith)
+
+pub laid-numbers-behind : (xs : List Float) (k : ℕ) (vs : List C64) (j : ℕ) → k + length vs ≤ j → numberAt (laidNumbers xs k vs) j ≡ numberAt xs j
+unfolding laidBy
+laid-numbers-behind xs k [] j h = refl
+laid-numbers-behind xs k (v ∷ vs) j h =
+    laid-numbers-behind (setNumber xs k v) (suc k) vs j (omega arith) ∙ number-other xs k j v (omega arith)
+
+laid-numbers-inside : (xs : List Float) (k : ℕ) (vs : List C64) (j i : ℕ) (d : C64) → i ≡ k + j → j < length vs → 2 * (k + length vs) ≤ length xs
+    → numberAt (laidNumbers xs k vs) i ≡ getD vs j d
+unfolding laidBy places
+laid-numbers-inside xs k [] j i d e h r = absurd (omega arith)
+laid-numbers-inside xs k (v ∷ vs) zero i d e h r =
+    let p : i ≡ k = omega arith in
+    rw p (laid-numbers-before (setNumber xs k v) (suc k) vs k (omega arith) ∙ number-same xs k v (omega arith))
+laid-numbers-inside xs k (v ∷ vs) (suc j) i d e h r =
+    laid-numbers-inside (setNumber xs k v) (suc k) vs j i d (omega arith) (omega arith) (omega (arith, length-setNumber xs k v))
+
+pub laid-numbers-at : (xs : List Float) (k : ℕ) (vs : List C64) (j : ℕ) (d : C64) → j < length vs → 2 * (k + length vs) ≤ length xs
+    → numberAt (laidNumbers xs k vs) (k + j) ≡ getD vs j d
+laid-numbers-at xs k vs j d h r = laid-numbers-inside xs k vs j (k + j) d refl h r
+
+-- what was laid into a list with room is read back
+pub read-back : (xs : List Float) (k : ℕ) (vs : List C64) → 2 * (k + length vs) ≤ length xs → readBy numberAt (laidNumbers xs k vs) k (length vs) ≡ vs
+unfolding readBy laidBy places
+read-back xs k [] h = refl
+read-back xs k (v ∷ vs) h =
+    let ys = setNumber xs k v in
+    let here : numberAt (laidNumbers ys (suc k) vs) k ≡ v =
+    laid-numbers-before ys (suc k) vs k (omega arith) ∙ number-same xs k v (omega arith) in
+    let rest : readBy numberAt (laidNumbers ys (suc k) vs) (suc k) (length vs) ≡ vs = read-back ys (suc k) vs (omega (arith, length-setNumber xs k v)) in
+    λ i. here i ∷ rest i
+
+-- ---- the lists keep their lengths
+
+pub laid-same : {xs ys vs : List ℕ} {k r : ℕ} → Laid set xs k vs ys r → length ys ≡ length xs
+laid-same {xs} {ys} {vs} {k} {r} p = ap length (p .list) ∙ laid-length xs k vs
+
+pub laid-numbers-same : {xs ys : List Float} {vs : List C64} {k r : ℕ} → Laid setNumber xs k vs ys r → length ys ≡ length xs
+laid-numbers-same {xs} {ys} {vs} {k} {r} p = ap length (p .list) ∙ laid-numbers-length xs k vs
+
+-- ---- rows one behind another
+
+module _ {A : Type 0} where
+  pub rows-agree : (f g : ℕ → List A) (n : ℕ) → ((r : ℕ) → r < n → f r ≡ g r) → rows f n ≡ rows g n
+  unfolding rows
+  rows-agree f g zero h = refl
+  rows-agree f g (suc n) h =
+      let p : rows f n ≡ rows g n = rows-agree f g n (λ r b. h r (omega arith)) in
+      let q : f n ≡ g n = h n (omega arith) in
+      λ i. p i ++ q i
+
+  pub rows-length : (f : ℕ → List A) (n : ℕ) → length (rows f (suc n)) ≡ length (rows f n) + length (f n)
+  unfolding rows
+  rows-length f n = length-append (rows f n) (f n)
+
+  -- at most b in each of the first n rows
+  pub rows-most : (f : ℕ → List A) (b n : ℕ) → ((r : ℕ) → r < n → length (f r) ≤ b) → length (rows f n) ≤ b * n
+  unfolding rows
+  rows-most f b zero h = omega arith
+  rows-most f b (suc n) h =
+      let ih : length (rows f n) ≤ b * n = rows-most f b n (λ r l. h r (omega arith)) in
+      omega (arith, h n (omega arith), length-append (rows f n) (f n), mul-suc b n)
+
+-- ---- a loop that lays one row at each turn, m of n done
+
+pub record Laying {L A : Type 0} (put : L → ℕ → A → L) (row : ℕ → List A) (n from : ℕ) (xs₀ xs : L) (k m : ℕ) : Type 0 where
+  pub high : m ≤ n
+  pub wrote : Laid put xs₀ from (rows row m) xs k
+
+module _ {L A : Type 0} {put : L → ℕ → A → L} {row : ℕ → List A} {n from : ℕ} where
+  pub laying-start : {xs : L} → Laying put row n from xs xs from 0
+  unfolding rows
+  laying-start = record { high = omega arith; wrote = laid-none }
+
+  pub laying-turn : {xs₀ xs ys : L} {k r m : ℕ} → Laying put row n from xs₀ xs k m → m < n → Laid put xs k (row m) ys r → Laying put row n from xs₀ ys r (m + 1)
+  unfolding rows
+  laying-turn {xs₀} {xs} {ys} {k} {r} {m} u h w = record { high = omega arith; wrote = rw (add-one m) (laid-append (u .wrote) w) }
+
+  pub laying-end : {xs₀ xs : L} {k m : ℕ} → Laying put row n from xs₀ xs k m → n ≤ m → Laid put xs₀ from (rows row n) xs k
+  laying-end {xs₀} {xs} {k} {m} u h = let e : m ≡ n = omega arith in rw e at (u .wrote)
+
+  -- how far it has come, with at most b in each row
+  pub laying-most : {xs₀ xs : L} {k m : ℕ} (b : ℕ) → Laying put row n from xs₀ xs k m → ((r : ℕ) → r < n → length (row r) ≤ b) → k ≤ from + b * m
+  laying-most {xs₀} {xs} {k} {m} b u h = omega (arith, u .wrote .next, rows-most row b m (λ r l. h r (omega (arith, u .high))))
+
+-- ---- the starts of rows: 0 first, and behind each row its end
+
+-- a tabulated list with one more at the end
+pub tabulate-more : {A : Type 0} (f : ℕ → A) (n k j : ℕ) → j ≡ k + n → tabulate f (suc n) k ≡ tabulate f n k ++ (f j ∷ [])
+unfolding tabulate
+tabulate-more f zero k j e = let d : k ≡ j = omega arith in rw d
+tabulate-more f (suc n) k j e = rw (tabulate-more f n (suc k) j (omega arith))
+
+module _ {A : Type 0} (row : ℕ → List A) where
+  pub starts-first : startsOf row 0 ≡ 0 ∷ []
+  unfolding startsOf startOf tabulate rows
+  starts-first = refl
+
+  pub starts-more : (n : ℕ) → startsOf row (n + 1) ≡ startsOf row n ++ (startOf row (n + 1) ∷ [])
+  unfolding startsOf
+  starts-more n = rw (add-one (n + 1)) (tabulate-more (startOf row) (n + 1) 0 (n + 1) (omega arith))
+
+-- ---- whether the numbers of a list are finite, m of n seen
+
+pub record Seen (xs : List Float) (k n m : ℕ) : Type 0 where
+  pub high : m ≤ n
+  pub same : allFinite (readBy numberAt xs (k + m) (n - m)) ≡ allFinite (readBy numberAt xs k n)
+
+-- the next number, and what is behind it
+seen-next : (xs : List Float) (k n m : ℕ) → m < n
+    → allFinite (readBy numberAt xs (k + m) (n - m)) ≡ (finite (numberAt xs (k + m)) && allFinite (readBy numberAt xs (k + (m + 1)) (n - (m + 1))))
+unfolding readBy allFinite
+seen-next xs k n m h =
+    let e : n - m ≡ suc (n - (m + 1)) = omega arith in
+    let d : k + (m + 1) ≡ suc (k + m) = omega arith in
+    rw (e, d)
+
+module _ {xs : List Float} {k n : ℕ} where
+  pub seen-start : Seen xs k n 0
+  seen-start =
+      let e : k + 0 ≡ k = omega arith in
+      let d : n - 0 ≡ n = omega arith in
+      record { high = omega arith; same = λ i. allFinite (readBy numberAt xs (e i) (d i)) }
+
+  pub seen-turn : {m : ℕ} → Seen xs k n m → m < n → finite (numberAt xs (k + m)) ≡ true → Seen xs k n (m + 1)
+  seen-turn {m} p h f = record { high = omega arith; same = sym (seen-next xs k n m h ∙ and-true _ _ f) ∙ p .same }
+
+  pub seen-stop : {m : ℕ} → Seen xs k n m → m < n → finite (numberAt xs (k + m)) ≡ false → false ≡ allFinite (readBy numberAt xs k n)
+  seen-stop {m} p h f = sym (seen-next xs k n m h ∙ and-false _ _ f ∙ f) ∙ p .same
+
+  pub seen-end : {m : ℕ} → Seen xs k n m → n ≤ m → true ≡ allFinite (readBy numberAt xs k n)
+  unfolding readBy allFinite
+  seen-end {m} p h = let e : n - m ≡ 0 = omega arith in rw e at (p .same)

@@ -1,0 +1,361 @@
+-- Laws of the lists of slots: how they are filled, and what a slot or an entry takes, by cases.
+-- Assumes nothing.
+use Prim.Native.Nat.{ℕ, zero, suc, _+_, _-_, _*_, _/_, _%_, _<_, _≤_}
+use native.Mathlib.Numerals.{add-one}
+use native.Mathlib.Omega.{arith}
+use mathlib.Core.Path.{_≡_, refl, sym, ap, _∙_}
+use mathlib.Core.Bool.{Bool, true, false, not, _&&_, cond}
+use mathlib.Core.List.{List, [], _∷_, _++_}
+use borrow.Author.Tests.{ltb-true, ltb-false, lt-ltb, le-ltb, not-true, not-false}
+use borrow.Author.Count.{below-more}
+use lib.Dec.{eqb, ltb}
+use lib.ListN.{length, getD, drop, replicate, length-replicate, length-append, drop-of-length-le}
+use lib.Seq.{drop-cons}
+use lib.Ieee.{Float}
+use Rattle.numbers.specs.declared.C64.{C64}
+use Rattle.numbers.specs.Complex.{zeroNumber, noNumber}
+use Rattle.numbers.specs.Places.{places, numberAt, setNumber}
+use Rattle.numbers.proofs.Laws.{length-setNumber, number-same, number-other}
+use Rattle.lattice.specs.declared.grid.Grid3d.{Grid3d}
+use Rattle.lattice.specs.declared.lattice.Edges.{Edges}
+use Rattle.lattice.specs.declared.levels.Three.{Three}
+use Rattle.lattice.specs.declared.line.Line.{Line}
+use Rattle.lattice.specs.declared.neighbours.Arrival.{Arrival}
+use Rattle.lattice.specs.declared.neighbours.Arrival.the-variants.{To, Beyond}
+use Rattle.lattice.specs.Grid.{axis3, nOf, Limits}
+use Rattle.lattice.specs.Lattice.{Medium, tabulate, edgesOf, isWall}
+use Rattle.lattice.specs.Line.{endsOf, placeOf, nodesOf, Held}
+use Rattle.lattice.specs.Stretched.{mapList, acrossMap, alongMap}
+use Rattle.lattice.specs.Terms.{Term}
+use Rattle.lattice.proofs.GridLaws.{n-some, n-most}
+use Rattle.lattice.proofs.LineLaws.{length-ends, ends-at, length-nodes}
+use Rattle.lattice.proofs.TabulateLaws.{length-tabulate, is-tabulate}
+use Rattle.weights.specs.declared.interpolate.Rule.{Rule}
+use Rattle.weights.specs.declared.interpolate.Rule.the-variants.{Coincides, Nearest, Between, Dropped}
+use Rattle.weights.specs.declared.interpolate.Spots.{Spots}
+use Rattle.weights.specs.declared.interpolate.Pulls.{Pulls}
+use Rattle.weights.specs.Lists.{laidBy, laid, laidNumbers}
+use Rattle.weights.specs.TwoLevels.{TwoLevels, fineLine, coarseLine, nodeOn}
+use Rattle.weights.specs.Interpolate.{lowSide, highSide, sidePlaces, rulePlaces, ruleOf, takenPlaces, interpolated}
+use Rattle.weights.specs.Product.{keptPlaces, keptTerms}
+use Rattle.weights.specs.Transfer.{numbersOf}
+use Rattle.weights.specs.Tables.{slotAxis, slotAlong, slotPlace, slotWall, slotBlock, slotTaken, slotPulled, linesIn, valueEntry, endNo, nodeNo, mapNo, mapIn, placesIn, spotsOf, pullsOf, countFrom, placeFrom, pullFrom, Numbers, HeldThree, ValuesOf}
+use Rattle.weights.proofs.ListLaws.{laid-length, laid-before, laid-at, laid-numbers-length, laid-numbers-before, laid-numbers-at}
+
+-- ---- a loop that lays one value at each turn, m of them done: the others, laid from there on, come to the whole
+
+pub record Spread {L A : Type 0} (put : L → ℕ → A → L) (xs : L) (k : ℕ) (vs : List A) (m : ℕ) (ys : L) : Type 0 where
+  pub same : laidBy put ys (k + m) (drop m vs) ≡ laidBy put xs k vs
+
+module _ {L A : Type 0} {put : L → ℕ → A → L} {xs : L} {k : ℕ} {vs : List A} where
+  pub spread-start : Spread put xs k vs 0 xs
+  spread-start = let e : k + 0 ≡ k = omega arith in record { same = ap (λ (i : ℕ). laidBy put xs i vs) e }
+
+  pub spread-turn : {m : ℕ} {ys : L} {v : A} (d : A) → Spread put xs k vs m ys → m < length vs → v ≡ getD vs m d → Spread put xs k vs (m + 1) (put ys (k + m) v)
+  unfolding laidBy
+  spread-turn {m} {ys} {v} d p h q =
+      let e : k + (m + 1) ≡ suc (k + m) = omega arith in
+      record { same = rw (e, add-one m, q) (sym (ap (laidBy put ys (k + m)) (drop-cons vs m d h)) ∙ p .same) }
+
+  pub spread-end : {m : ℕ} {ys : L} → Spread put xs k vs m ys → length vs ≤ m → ys ≡ laidBy put xs k vs
+  unfolding laidBy
+  spread-end {m} {ys} p h = sym (ap (laidBy put ys (k + m)) (drop-of-length-le vs {i = m} h)) ∙ p .same
+
+-- ---- a list whose first k numbers of n are f 0, f 1, ..
+
+pub record NumbersTo (f : ℕ → C64) (n k : ℕ) (xs : List Float) : Type 0 where
+  pub long : length xs ≡ 2 * n
+  pub done : (i : ℕ) → i < k → numberAt xs i ≡ f i
+
+module _ {f : ℕ → C64} {n : ℕ} where
+  pub numbers-start : {xs : List Float} → length xs ≡ 2 * n → NumbersTo f n 0 xs
+  numbers-start h = record { long = h; done = λ i b. absurd (omega arith) }
+
+  -- one number more
+  pub numbers-turn : {k : ℕ} {xs : List Float} {v : C64} → NumbersTo f n k xs → k < n → v ≡ f k → NumbersTo f n (k + 1) (setNumber xs k v)
+  unfolding places
+  numbers-turn {k} {xs} {v} p b e =
+      record {
+        long = length-setNumber xs k v ∙ p .long;
+        done = below-more (λ (i : ℕ). numberAt (setNumber xs k v) i ≡ f i) k
+            (λ i h. number-other xs k i v (omega arith) ∙ p .done i h)
+            (number-same xs k v (omega (arith, p .long)) ∙ e);
+      }
+
+  -- a list of numbers more
+  pub numbers-laid : {k : ℕ} {xs : List Float} (vs : List C64) → NumbersTo f n k xs → k + length vs ≤ n
+      → ((j : ℕ) → j < length vs → getD vs j noNumber ≡ f (k + j)) → NumbersTo f n (k + length vs) (laidNumbers xs k vs)
+  numbers-laid {k} {xs} vs p b e =
+      record { long = laid-numbers-length xs k vs ∙ p .long; done = λ i h. go i h (ltb i k) refl }
+    where
+      go : (i : ℕ) → i < k + length vs → (s : Bool) → ltb i k ≡ s → numberAt (laidNumbers xs k vs) i ≡ f i
+      go i h true q = let l : i < k = ltb-true i k q in laid-numbers-before xs k vs i l ∙ p .done i l
+      go i h false q =
+          let l : i - k < length vs = omega (arith, ltb-false i k q) in
+          let w : k + (i - k) ≡ i = omega (arith, ltb-false i k q) in
+          let u : numberAt (laidNumbers xs k vs) (k + (i - k)) ≡ f (k + (i - k)) =
+          laid-numbers-at xs k vs (i - k) noNumber l (omega (arith, p .long)) ∙ e (i - k) l in
+          rw w at u
+
+  pub numbers-whole : {xs : List Float} → NumbersTo f n n xs → Numbers f n xs
+  numbers-whole p = record { long = p .long; each-is = p .done }
+
+-- ---- the list of maps, block by block
+
+-- the map of block b
+abbrev mapOf : Medium → ℕ → List C64
+mapOf l b = cond (eqb (b % 2) 1) (alongMap l (b / 2)) (acrossMap l (b / 2))
+
+map-long : (l : Medium) (b : ℕ) → length (mapOf l b) ≡ 129
+unfolding acrossMap alongMap mapList
+map-long l b = go (eqb (b % 2) 1)
+  where
+    go : (s : Bool) → length (cond s (alongMap l (b / 2)) (acrossMap l (b / 2))) ≡ 129
+    go true = length-tabulate _ 129 0
+    go false = length-tabulate _ 129 0
+
+map-at : (l : Medium) (b p : ℕ) → p < 129 → getD (mapOf l b) p noNumber ≡ mapNo l (129 * b + p)
+unfolding mapNo
+map-at l b p h =
+    let e : (129 * b + p) / 129 ≡ b = omega arith in
+    let d : (129 * b + p) % 129 ≡ p = omega arith in
+    rw (e, d)
+
+-- a map more
+pub maps-turn : (l : Medium) (b : ℕ) {xs ys : List Float} {vs : List C64} → b < 6 → vs ≡ mapOf l b → NumbersTo (mapNo l) 774 (129 * b) xs
+    → ys ≡ laidNumbers xs (129 * b) vs → NumbersTo (mapNo l) 774 (129 * (b + 1)) ys
+maps-turn l b {xs} {ys} {vs} h e p q =
+    let w : length vs ≡ 129 = ap length e ∙ map-long l b in
+    let s : 129 * (b + 1) ≡ 129 * b + length vs = omega arith in
+    rw (q, s) (numbers-laid vs p (omega arith) (λ j k. ap (λ (us : List C64). getD us j noNumber) e ∙ map-at l b j (omega arith)))
+
+-- ---- the list of nodes, axis by axis: the first k are there
+
+pub record NodesTo (t : TwoLevels) (k : ℕ) (xs : List ℕ) : Type 0 where
+  pub long : length xs ≡ 195
+  pub done : (i : ℕ) → i < k → getD xs i 0 ≡ nodeNo t i
+
+-- zeros behind a list read as what is past its end
+padded : (xs : List ℕ) (n i : ℕ) → getD (xs ++ replicate n 0) i 0 ≡ getD xs i 0
+padded [] zero i = refl
+padded [] (suc n) zero = refl
+padded [] (suc n) (suc i) = padded [] n i
+padded (x ∷ xs) n zero = refl
+padded (x ∷ xs) n (suc i) = padded xs n i
+
+node-at : (t : TwoLevels) (a m : ℕ) → m < 65 → getD (nodesOf (fineLine t a) (coarseLine t a)) m 0 ≡ nodeNo t (65 * a + m)
+unfolding nodeNo nodeOn
+node-at t a m h =
+    let e : (65 * a + m) / 65 ≡ a = omega arith in
+    let d : (65 * a + m) % 65 ≡ m = omega arith in
+    rw (e, d)
+
+pub nodes-start : {t : TwoLevels} → NodesTo t 0 (replicate 195 0)
+nodes-start = record { long = length-replicate {A = ℕ} 195 0; done = λ i b. absurd (omega arith) }
+
+-- the nodes of an axis more
+pub nodes-turn : {t : TwoLevels} (a : ℕ) (fine : Line) {coarse : Line} {xs ys vs : List ℕ} → a < 3 → fineLine t a ≡ endsOf fine → coarseLine t a ≡ endsOf coarse
+    → Held coarse → vs ≡ nodesOf (endsOf fine) (endsOf coarse) ++ replicate (64 - coarse .cells) 0 → NodesTo t (65 * a) xs → ys ≡ laid xs (65 * a) vs
+    → NodesTo t (65 * (a + 1)) ys
+nodes-turn {t} a fine {coarse} {xs} {ys} {vs} b f g c e p q =
+    record { long = ap length q ∙ laid-length xs (65 * a) vs ∙ p .long; done = λ i h. rw q (go i h (ltb i (65 * a)) refl) }
+  where
+    many : length vs ≡ 65
+    many =
+        ap length e ∙ length-append (nodesOf (endsOf fine) (endsOf coarse)) (replicate (64 - coarse .cells) 0)
+        ∙ omega (arith, length-nodes (endsOf fine) (endsOf coarse), length-ends coarse c, length-replicate {A = ℕ} (64 - coarse .cells) 0, c .most)
+
+    at : (m : ℕ) → m < 65 → getD vs m 0 ≡ nodeNo t (65 * a + m)
+    at m h =
+        rw e (padded (nodesOf (endsOf fine) (endsOf coarse)) (64 - coarse .cells) m)
+        ∙ (rw (f, g) at (node-at t a m h))
+
+    go : (i : ℕ) → i < 65 * (a + 1) → (s : Bool) → ltb i (65 * a) ≡ s → getD (laid xs (65 * a) vs) i 0 ≡ nodeNo t i
+    go i h true r = let l : i < 65 * a = ltb-true i (65 * a) r in laid-before xs (65 * a) vs i l ∙ p .done i l
+    go i h false r =
+        let l : i - 65 * a < 65 = omega (arith, ltb-false i (65 * a) r) in
+        let w : 65 * a + (i - 65 * a) ≡ i = omega (arith, ltb-false i (65 * a) r) in
+        let u : getD (laid xs (65 * a) vs) (65 * a + (i - 65 * a)) 0 ≡ nodeNo t (65 * a + (i - 65 * a)) =
+        laid-at xs (65 * a) vs (i - 65 * a) (omega (arith, many)) (omega (arith, many, p .long)) ∙ at (i - 65 * a) l in
+        rw w at u
+
+pub nodes-whole : {t : TwoLevels} {xs : List ℕ} → NodesTo t 195 xs → xs ≡ tabulate (nodeNo t) 195 0
+nodes-whole {t} {xs} p = is-tabulate (nodeNo t) 195 0 xs (p .long) (p .done)
+
+-- ---- the values' places, and the last ends
+
+module _ (l : Line) (p : Held l) where
+  cells-are : length (endsOf l) - 1 ≡ l .cells
+  cells-are = omega (arith, length-ends l p)
+
+  -- value i, where the line has it and where not
+  pub value-held : (i : ℕ) (along : Bool) → i < l .cells
+      → placeOf (endsOf l) i along ≡ cond (ltb i (length (endsOf l) - 1)) (placeOf (endsOf l) i along) 0
+  value-held i along h = rw (lt-ltb i (length (endsOf l) - 1) (omega (arith, cells-are)))
+
+  pub value-none : (i : ℕ) (along : Bool) → l .cells ≤ i → 0 ≡ cond (ltb i (length (endsOf l) - 1)) (placeOf (endsOf l) i along) 0
+  value-none i along h = rw (le-ltb i (length (endsOf l) - 1) (omega (arith, cells-are)))
+
+  pub last-end : getD (l .ends) (l .cells) 0 ≡ getD (endsOf l) (length (endsOf l) - 1) 0
+  last-end = sym (ends-at l (l .cells) (omega arith)) ∙ ap (λ (i : ℕ). getD (endsOf l) i 0) (sym cells-are)
+
+pub last-ends : (s : Three) → HeldThree s
+    → getD (s .x .ends) (s .x .cells) 0 ∷ (getD (s .y .ends) (s .y .cells) 0 ∷ (getD (s .z .ends) (s .z .cells) 0 ∷ []))
+    ≡ tabulate (endNo (linesIn s)) 3 0
+unfolding tabulate endNo linesIn axis3
+last-ends s p = λ i. last-end (s .x) (p .x-held) i ∷ (last-end (s .y) (p .y-held) i ∷ (last-end (s .z) (p .z-held) i ∷ []))
+
+-- the value of a slot, on the line of its axis
+pub value-is : (s : Three) (q : ℕ) {es : List ℕ} {along : Bool} → es ≡ axis3 (q / 128) (endsOf (s .x)) (endsOf (s .y)) (endsOf (s .z)) → along ≡ slotAlong q
+    → cond (ltb (q % 64) (length es - 1)) (placeOf es (q % 64) along) 0 ≡ valueEntry (linesIn s) q
+unfolding valueEntry linesIn slotAxis slotPlace
+value-is s q e f = λ i. cond (ltb (q % 64) (length (e i) - 1)) (placeOf (e i) (q % 64) (f i)) 0
+
+-- ---- what a slot takes, by cases
+
+module _ (l : Medium) (gf gc : Grid3d) (fs cs : List ℕ) (q : ℕ) where
+  -- past the fine line's values
+  pub taken-past : nOf gf (q / 128) ≤ q % 64 → [] ≡ slotTaken l gf gc fs cs q
+  unfolding slotTaken slotPlace slotAxis
+  taken-past h = rw (le-ltb (q % 64) (nOf gf (q / 128)) h)
+
+  -- a fixed place
+  pub taken-fixed : q % 64 < nOf gf (q / 128) → slotWall l q ≡ true → eqb (q % 64) 0 ≡ true → [] ≡ slotTaken l gf gc fs cs q
+  unfolding slotTaken slotPlace slotAxis
+  taken-fixed h w z = rw (lt-ltb (q % 64) (nOf gf (q / 128)) h, w, z)
+
+  -- the others
+  pub taken-free : {e : Edges} {n : ℕ} {along wall : Bool} → q % 64 < nOf gf (q / 128) → wall ≡ slotWall l q → (wall && eqb (q % 64) 0) ≡ false
+      → e ≡ edgesOf l (q / 128) → n ≡ nOf gc (q / 128) → along ≡ slotAlong q
+      → keptPlaces wall (takenPlaces e (placesIn cs (q - q % 64) n) along (getD fs q 0)) ≡ slotTaken l gf gc fs cs q
+  unfolding slotTaken slotPlace slotAxis slotBlock
+  taken-free h w f e n a = rw (lt-ltb (q % 64) (nOf gf (q / 128)) h, ← w, f, ← e, ← n, ← a)
+
+  module _ (xs : List Float) (es : List ℕ) where
+    pub pulled-past : nOf gf (q / 128) ≤ q % 64 → [] ≡ slotPulled l gf gc fs cs xs es q
+    unfolding slotPulled slotPlace slotAxis
+    pulled-past h = rw (le-ltb (q % 64) (nOf gf (q / 128)) h)
+
+    pub pulled-fixed : q % 64 < nOf gf (q / 128) → slotWall l q ≡ true → eqb (q % 64) 0 ≡ true → [] ≡ slotPulled l gf gc fs cs xs es q
+    unfolding slotPulled slotPlace slotAxis
+    pulled-fixed h w z = rw (lt-ltb (q % 64) (nOf gf (q / 128)) h, w, z)
+
+    pub pulled-free : {e : Edges} {n : ℕ} {along wall : Bool} → q % 64 < nOf gf (q / 128) → wall ≡ slotWall l q → (wall && eqb (q % 64) 0) ≡ false
+        → e ≡ edgesOf l (q / 128) → n ≡ nOf gc (q / 128) → along ≡ slotAlong q
+        → keptTerms wall (interpolated e (mapIn xs (q / 64)) (placesIn cs (q - q % 64) n) (getD es (q / 128) 0) along (getD fs q 0))
+        ≡ slotPulled l gf gc fs cs xs es q
+    unfolding slotPulled slotPlace slotAxis slotBlock
+    pulled-free h w f e n a = rw (lt-ltb (q % 64) (nOf gf (q / 128)) h, ← w, f, ← e, ← n, ← a)
+
+-- the coarse values of a slot's block have room in the list
+module _ (q : ℕ) {n : ℕ} {gc : Grid3d} {fs cs : List ℕ} (g : Limits gc) (v : ValuesOf fs cs) (h : q < 384) (e : n ≡ nOf gc (q / 128)) where
+  pub block-room : (q - q % 64 + n ≤ length cs) × (q - q % 64 + n ≤ 384)
+  block-room = (omega (arith, n-most g (q / 128), v .coarse-long), omega (arith, n-most g (q / 128)))
+
+  pub block-some : 0 < n
+  block-some = omega (arith, n-some g (q / 128))
+
+-- a place is free without a wall, and away from the first place
+pub free-open : (w : Bool) (i : ℕ) → w ≡ false → (w && eqb i 0) ≡ false
+free-open w i e = rw e
+
+pub free-inside : (w : Bool) (i : ℕ) → eqb i 0 ≡ false → (w && eqb i 0) ≡ false
+free-inside true i h = h
+free-inside false i h = refl
+
+-- ---- a slot takes at most two
+
+side-few : (s : Arrival) → length (sidePlaces s) ≤ 1
+side-few Beyond = omega arith
+side-few (To m w) = omega arith
+
+sides-few : (s u : Arrival) → length (sidePlaces s ++ sidePlaces u) ≤ 2
+sides-few s u = omega (arith, length-append (sidePlaces s) (sidePlaces u), side-few s, side-few u)
+
+rule-few : (e : Edges) (n : ℕ) (r : Rule) → length (rulePlaces e n r) ≤ 2
+rule-few e n (Coincides m) = omega arith
+rule-few e n (Nearest m) = omega arith
+rule-few e n (Between h) = sides-few (lowSide e n h) (highSide e n h)
+rule-few e n (Dropped h) = sides-few (lowSide e n h) (highSide e n h)
+
+kept-few : (wall : Bool) (ms : List ℕ) → length (keptPlaces wall ms) ≤ length ms
+unfolding keptPlaces
+kept-few wall [] = omega arith
+kept-few wall (m ∷ ms) = go (wall && eqb m 0) (kept-few wall ms)
+  where
+    go : (b : Bool) → length (keptPlaces wall ms) ≤ length ms → length (cond b (keptPlaces wall ms) (m ∷ keptPlaces wall ms)) ≤ suc (length ms)
+    go true h = omega arith
+    go false h = omega arith
+
+pub taken-few : (l : Medium) (gf gc : Grid3d) (fs cs : List ℕ) (q : ℕ) → length (slotTaken l gf gc fs cs q) ≤ 2
+unfolding slotTaken takenPlaces
+taken-few l gf gc fs cs q = go (ltb (slotPlace q) (nOf gf (slotAxis q))) (slotWall l q && eqb (slotPlace q) 0)
+  where
+    e : Edges
+    e = edgesOf l (slotAxis q)
+
+    bs : List ℕ
+    bs = slotBlock gc cs q
+
+    r : Rule
+    r = ruleOf e bs (slotAlong q) (getD fs q 0)
+
+    go : (a b : Bool) → length (cond a (cond b [] (keptPlaces (slotWall l q) (rulePlaces e (length bs) r))) []) ≤ 2
+    go false b = omega arith
+    go true true = omega arith
+    go true false = omega (arith, kept-few (slotWall l q) (rulePlaces e (length bs) r), rule-few e (length bs) r)
+
+-- ---- what is read of the entries by value
+
+spots-count : (ms : List ℕ) → length ms ≤ 2 → spotsOf ms .count ≡ length ms
+spots-count [] h = refl
+spots-count (a ∷ []) h = refl
+spots-count (a ∷ (b ∷ [])) h = refl
+spots-count (a ∷ (b ∷ (c ∷ ms))) h = absurd (omega arith)
+
+spots-at : (ms : List ℕ) (d : ℕ) → d < 2 → getD (spotsOf ms .first ∷ (spotsOf ms .second ∷ [])) d 0 ≡ getD ms d 0
+spots-at [] zero h = refl
+spots-at (a ∷ []) zero h = refl
+spots-at (a ∷ (b ∷ ms)) zero h = refl
+spots-at [] (suc zero) h = refl
+spots-at (a ∷ []) (suc zero) h = refl
+spots-at (a ∷ (b ∷ ms)) (suc zero) h = refl
+spots-at ms (suc (suc d)) h = absurd (omega arith)
+
+pulls-at : (ts : List Term) (d : ℕ) → d < 2 → getD (pullsOf ts .low ∷ (pullsOf ts .high ∷ [])) d zeroNumber ≡ getD (numbersOf ts) d zeroNumber
+unfolding numbersOf
+pulls-at [] zero h = refl
+pulls-at (a ∷ []) zero h = refl
+pulls-at (a ∷ (b ∷ ts)) zero h = refl
+pulls-at [] (suc zero) h = refl
+pulls-at (a ∷ []) (suc zero) h = refl
+pulls-at (a ∷ (b ∷ ts)) (suc zero) h = refl
+pulls-at ts (suc (suc d)) h = absurd (omega arith)
+
+module _ (l : Medium) (gf gc : Grid3d) (fs cs : List ℕ) where
+  pub count-is : (q : ℕ) {s : Spots} → s ≡ spotsOf (slotTaken l gf gc fs cs q) → s .count ≡ countFrom l gf gc fs cs q
+  unfolding countFrom
+  count-is q {s} e = ap (λ (u : Spots). u .count) e ∙ spots-count (slotTaken l gf gc fs cs q) (taken-few l gf gc fs cs q)
+
+  pub place-is : (e : ℕ) {s : Spots} {r : ℕ} → s ≡ spotsOf (slotTaken l gf gc fs cs (e / 2)) → r ≡ getD (s .first ∷ (s .second ∷ [])) (e % 2) 0
+      → r ≡ placeFrom l gf gc fs cs e
+  unfolding placeFrom
+  place-is e p q = q ∙ ap (λ (u : Spots). getD (u .first ∷ (u .second ∷ [])) (e % 2) 0) p ∙ spots-at (slotTaken l gf gc fs cs (e / 2)) (e % 2) (omega arith)
+
+  pub pull-is : (xs : List Float) (es : List ℕ) (e : ℕ) {s : Pulls} {w : C64} → s ≡ pullsOf (slotPulled l gf gc fs cs xs es (e / 2))
+      → w ≡ getD (s .low ∷ (s .high ∷ [])) (e % 2) zeroNumber → w ≡ pullFrom l gf gc fs cs xs es e
+  unfolding pullFrom
+  pull-is xs es e p q =
+      q ∙ ap (λ (u : Pulls). getD (u .low ∷ (u .high ∷ [])) (e % 2) zeroNumber) p
+      ∙ pulls-at (slotPulled l gf gc fs cs xs es (e / 2)) (e % 2) (omega arith)
+
+-- ---- a slot's wall, by the tests of the code
+
+module _ (l : Medium) (q : ℕ) {a : Bool} (p : a ≡ slotAlong q) where
+  pub wall-across : {e : Edges} {w : Bool} → not a ≡ true → e ≡ edgesOf l (q / 128) → w ≡ isWall e → w ≡ slotWall l q
+  unfolding slotWall slotAxis
+  wall-across h e f = rw (← p, not-true a h) (f ∙ ap isWall e)
+
+  pub wall-along : not a ≡ false → not a ≡ slotWall l q
+  unfolding slotWall slotAxis
+  wall-along h = rw (← p, not-false a h)

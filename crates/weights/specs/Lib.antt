@@ -1,0 +1,11 @@
+pub mod Lists
+pub mod TwoLevels
+pub mod Interpolate
+pub mod Transfer
+pub mod Turning
+pub mod Prolongation
+pub mod CoarseEps
+pub mod Product
+pub mod Tables
+pub mod Whole
+pub mod Cases

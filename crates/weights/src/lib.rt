@@ -1,0 +1,10 @@
+// The third layer: interpolation, the chain of permittivities, the prolongation and its transpose.
+
+pub mod eps;
+pub mod interpolate;
+pub mod lists;
+pub mod prolongation;
+pub mod rows;
+pub mod tables;
+pub mod transfer;
+pub mod whole;

@@ -1,0 +1,182 @@
+// The prolongation between two levels, into lent lists: starts and columns, from the lattice alone, and weights, from the permittivities.
+// `requires` of all of them: the lines of two neighbouring levels, and offsets far from the largest number.
+
+ghost use mathlib.Core.Path.{_≡_};
+ghost use Prim.Native.Nat.{ℕ, _+_, _-_, _*_, _<_, _≤_, _^_};
+ghost use lib.ListN.{length, set};
+ghost use Rattle.numbers.specs.Places.{setNumber};
+ghost use Rattle.lattice.specs.Grid.{unknownsOf, Limits};
+ghost use Rattle.lattice.specs.Lattice.{medium};
+ghost use Rattle.weights.specs.Lists.{Laid, laid, laidNumbers, rows as rowsOf, allFinite};
+ghost use Rattle.weights.specs.TwoLevels.{twoOf, fineGrid, coarseGrid};
+ghost use Rattle.weights.specs.Prolongation.{weightColumns, weightNumbers};
+ghost use Rattle.weights.specs.Transfer.{startOf, startsOf, contains as containsIn, repeats as repeatsIn, someRepeats};
+ghost use Rattle.weights.specs.Tables.{Paired, PlacesOf, placesIn, columnsRow, readFrom, RoomFor, CountsOf, countedTo};
+use crate::lists;
+use crate::rows;
+use crate::rows::Span;
+use crate::tables;
+use lattice::grid;
+use lattice::grid::Grid3d;
+use lattice::lattice::Lattice;
+use lattice::levels::Three;
+
+// The columns of all rows from place k of the columns on, and the rows' starts from place s of the starts on. How many weights there are.
+pub fn columns(
+    l: Lattice,
+    st: &[f64],
+    fine: Three,
+    coarse: Three,
+    starts: &mut [usize],
+    s: usize,
+    columns: &mut [usize],
+    k: usize,
+) -> usize
+    requires { ⌜ Paired (medium l (now st)) fine coarse ⌝ }
+    requires { ⌜ (s ≤ 2 ^ 32) × (k ≤ 2 ^ 32) ⌝ }
+    ensures { λ r. ⌜ now (starts .exit) ≡ laid (now (starts .entry)) s (startsOf (weightColumns (twoOf (medium l (now (st .entry))) fine coarse)) (unknownsOf (fineGrid (twoOf (medium l (now (st .entry))) fine coarse)))) ⌝ }
+    ensures { λ r. ⌜ Laid set (now (columns .entry)) k (rowsOf (weightColumns (twoOf (medium l (now (st .entry))) fine coarse)) (unknownsOf (fineGrid (twoOf (medium l (now (st .entry))) fine coarse)))) (now (columns .exit)) (k + r) ⌝ }
+{
+    let gf = tables::grid_of(l.grid, fine);
+    let gc = tables::grid_of(l.grid, coarse);
+    let fs = tables::value_places(fine);
+    let cs = tables::value_places(coarse);
+    let ns = tables::counts(l, st, gf, gc, &fs, &cs);
+    let ps = tables::places(l, st, gf, gc, &fs, &cs);
+    rows::all_columns(gf, gc, &ps, &ns, starts, s, columns, k) - k
+}
+
+// The weights of all rows from place k of the values on, by the permittivities of the fine level at place feps of eps and those of the coarse one at
+// place ceps. Whether all are finite.
+pub fn weights(
+    l: Lattice,
+    st: &[f64],
+    fine: Three,
+    coarse: Three,
+    eps: &[f64],
+    feps: usize,
+    ceps: usize,
+    values: &mut [f64],
+    k: usize,
+) -> bool
+    requires { ⌜ Paired (medium l (now st)) fine coarse ⌝ }
+    requires { ⌜ RoomFor (twoOf (medium l (now st)) fine coarse) feps ceps (now eps) ⌝ }
+    requires { ⌜ (k ≤ 2 ^ 32) × (2 * (k + startOf (weightColumns (twoOf (medium l (now st)) fine coarse)) (unknownsOf (fineGrid (twoOf (medium l (now st)) fine coarse)))) ≤ length (now values)) ⌝ }
+    ensures { λ _. ⌜ now (values .exit) ≡ laidNumbers (now (values .entry)) k (rowsOf (weightNumbers (twoOf (medium l (now (st .entry))) fine coarse) (readFrom (now (eps .entry)) feps) (readFrom (now (eps .entry)) ceps)) (unknownsOf (fineGrid (twoOf (medium l (now (st .entry))) fine coarse)))) ⌝ }
+    ensures { λ r. ⌜ r ≡ allFinite (rowsOf (weightNumbers (twoOf (medium l (now (st .entry))) fine coarse) (readFrom (now (eps .entry)) feps) (readFrom (now (eps .entry)) ceps)) (unknownsOf (fineGrid (twoOf (medium l (now (st .entry))) fine coarse)))) ⌝ }
+{
+    let gf = tables::grid_of(l.grid, fine);
+    let gc = tables::grid_of(l.grid, coarse);
+    let fs = tables::value_places(fine);
+    let cs = tables::value_places(coarse);
+    let ns = tables::counts(l, st, gf, gc, &fs, &cs);
+    let ps = tables::places(l, st, gf, gc, &fs, &cs);
+    let nn = tables::nodes(l, st, fine, coarse);
+    let ds = tables::reads(&nn, &ps);
+    let maps = tables::maps(l, st);
+    let es = tables::last_ends(coarse);
+    let xs = tables::pulls(l, st, gf, gc, &fs, &cs, &maps, &es);
+    let span = Span {
+        fine: gf,
+        coarse: gc,
+        feps,
+        ceps,
+    };
+    let last = rows::all_numbers(span, &ps, &ds, &ns, &xs, eps, k, values);
+    lists::finite_numbers(values, k, last - k)
+}
+
+// How many weights the rows have, from the counts of the slots alone.
+fn count_all(gf: Grid3d, ns: &[usize]) -> usize
+    requires { ⌜ Limits gf ⌝ }
+    requires { ⌜ CountsOf (now ns) ⌝ }
+    ensures { λ r. ⌜ r ≡ countedTo gf (now (ns .entry)) (unknownsOf gf) ⌝ }
+{
+    let n = grid::unknowns(gf);
+    let mut sum = 0;
+    for r in 0..n {
+        sum += rows::count_at(ns, grid::at(gf, r));
+    }
+    sum
+}
+
+// How many weights the transfer has, before any is worked out.
+pub fn count(l: Lattice, st: &[f64], fine: Three, coarse: Three) -> usize
+    requires { ⌜ Paired (medium l (now st)) fine coarse ⌝ }
+    ensures { λ r. ⌜ r ≡ startOf (weightColumns (twoOf (medium l (now (st .entry))) fine coarse)) (unknownsOf (fineGrid (twoOf (medium l (now (st .entry))) fine coarse))) ⌝ }
+{
+    let gf = tables::grid_of(l.grid, fine);
+    let gc = tables::grid_of(l.grid, coarse);
+    let fs = tables::value_places(fine);
+    let cs = tables::value_places(coarse);
+    let ns = tables::counts(l, st, gf, gc, &fs, &cs);
+    count_all(gf, &ns)
+}
+
+// ---- refusal 8
+
+// Whether one of the columns from place m to place n - 1 is c.
+fn contains_from(columns: &[usize], m: usize, n: usize, c: usize) -> bool
+    requires { ⌜ n ≤ length (now columns) ⌝ }
+    ensures { λ r. ⌜ r ≡ containsIn c (placesIn (now (columns .entry)) m (n - m)) ⌝ }
+{
+    for q in m..n {
+        if columns[q] == c {
+            return true;
+        }
+    }
+    false
+}
+
+// Whether a column stands twice among the first n.
+fn repeats(columns: &[usize], n: usize) -> bool
+    requires { ⌜ n ≤ length (now columns) ⌝ }
+    ensures { λ r. ⌜ r ≡ repeatsIn (placesIn (now (columns .entry)) 0 n) ⌝ }
+{
+    for m in 0..n {
+        if contains_from(columns, m + 1, n, columns[m]) {
+            return true;
+        }
+    }
+    false
+}
+
+// Whether the row of fine edge r names a coarse edge twice.
+fn row_repeats(gf: Grid3d, gc: Grid3d, ps: &[usize], ns: &[usize], r: usize) -> bool
+    requires { ⌜ (Limits gf) × (Limits gc) ⌝ }
+    requires { ⌜ PlacesOf gc (now ps) (now ns) ⌝ }
+    requires { ⌜ r < unknownsOf gf ⌝ }
+    ensures { λ b. ⌜ b ≡ repeatsIn (columnsRow gf gc (now (ps .entry)) (now (ns .entry)) r) ⌝ }
+{
+    let mut columns = [0usize; 8];
+    let n = rows::columns_at(gc, ps, ns, grid::at(gf, r), 0, &mut columns);
+    repeats(&columns, n)
+}
+
+fn any_repeats(gf: Grid3d, gc: Grid3d, ps: &[usize], ns: &[usize]) -> bool
+    requires { ⌜ (Limits gf) × (Limits gc) ⌝ }
+    requires { ⌜ PlacesOf gc (now ps) (now ns) ⌝ }
+    ensures { λ b. ⌜ b ≡ someRepeats (columnsRow gf gc (now (ps .entry)) (now (ns .entry))) (unknownsOf gf) ⌝ }
+{
+    let n = grid::unknowns(gf);
+    for r in 0..n {
+        if row_repeats(gf, gc, ps, ns, r) {
+            return true;
+        }
+    }
+    false
+}
+
+// Whether some row names a coarse edge twice.
+pub fn names_twice(l: Lattice, st: &[f64], fine: Three, coarse: Three) -> bool
+    requires { ⌜ Paired (medium l (now st)) fine coarse ⌝ }
+    ensures { λ b. ⌜ b ≡ someRepeats (weightColumns (twoOf (medium l (now (st .entry))) fine coarse)) (unknownsOf (fineGrid (twoOf (medium l (now (st .entry))) fine coarse))) ⌝ }
+{
+    let gf = tables::grid_of(l.grid, fine);
+    let gc = tables::grid_of(l.grid, coarse);
+    let fs = tables::value_places(fine);
+    let cs = tables::value_places(coarse);
+    let ns = tables::counts(l, st, gf, gc, &fs, &cs);
+    let ps = tables::places(l, st, gf, gc, &fs, &cs);
+    any_repeats(gf, gc, &ps, &ns)
+}

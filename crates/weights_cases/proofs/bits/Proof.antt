@@ -1,0 +1,52 @@
+use mathlib.Core.Path.{_≡_, sym, _∙_, subst}
+use mathlib.Core.Bool.{true, not}
+use lib.Dec.{T}
+use lib.Ieee.{Float, isNan}
+use Rattle.numbers.specs.Complex.{finiteDouble}
+use Rattle.numbers.proofs.Laws.{finite-is}
+use borrow.Author.Needs.{needs}
+use Rattle.weights_cases.proofs.bits.Statement.{statement}
+use Rattle.weights_cases.proofs.bits.Tie as tie
+use Rattle.weights_cases.proofs.bits.Reads as reads
+use Rattle.weights_cases.proofs.bits.Lts as lts
+use Rattle.io.proofs.print_hex.Reads as print-hex-reads
+use Rattle.numbers.proofs.is_finite_double.Reads as is-finite-double-reads
+use Rattle.weights_cases.proofs.print.Reads as print-reads
+
+is-finite-double-requires : tie.Need-is-finite-double-requires
+is-finite-double-requires c κs = search needs
+
+-- a finite double is a number
+no-nan : (x : Float) → finiteDouble x ≡ true → T (not (isNan x))
+unfolding isNan
+no-nan x h = let f = finite-is x h in subst (λ (y : Float). T (not (isNan y))) (sym (f .3)) tt
+
+float-to-bits-print-hex : tie.Need-float-to-bits-print-hex
+float-to-bits-print-hex c = no-nan (c .before .before .args .x) (sym (c .before .is-finite-double .ensures) ∙ c .if1 .taken)
+
+print-hex-requires : tie.Need-print-hex-requires
+print-hex-requires c κs = search needs
+
+slice-aggregate-print : tie.Need-slice-aggregate-print
+slice-aggregate-print c = search needs
+
+print-requires : tie.Need-print-requires
+print-requires c κs = search needs
+
+returns : tie.Need-returns
+returns c = search needs
+
+returns-2 : tie.Need-returns-2
+returns-2 c = search needs
+
+pub bits-spec : {M : Type 1} → statement M
+bits-spec =
+    tie.close
+    (tie.spec
+    is-finite-double-requires
+    float-to-bits-print-hex
+    print-hex-requires
+    slice-aggregate-print
+    print-requires
+    returns
+    returns-2)
