@@ -120,6 +120,10 @@ FAULTS = {
     "one-cell-less": ("Line::coarser", r"n < 4", "n < 3"),
     "lost-wall": ("Lattice::fixed", r"a != c && ", ""),
     "unfixed-node": ("Lattice::gradient", r"!self\.node_fixed\(here\)", "true"),
+    "far-neighbour": ("interpolate_line", r"Some\(ph\) => Some\(\(0, ph\)\)", "Some(ph) => Some((0, ph.inv()))"),
+    "turned-late": ("Transfer::transpose", r"cols\[\*at\] = r;", "cols[*at] = r + 1;"),
+    "mean-of-two": ("coarse_eps", r"1\.0 / eps", "2.0 / eps"),
+    "fixed-weighted": ("prolongation", r"if coarse\.fixed\(col\)", "if false"),
     "other-map": ("level_lines", r"stretched\.across", "stretched.along"),
 }
 

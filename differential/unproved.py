@@ -33,6 +33,13 @@ FAULTS = {
     "lost-wall": ("lattice/src/neighbours.rt", "2 != c && on_wall(l, st, p, 2)", "on_wall(l, st, p, 2)"),
     "wrong-position": ("lattice/src/check.rt", "Checked::Entry(position + n + m)", "Checked::Entry(position + m)"),
     "wrong-order": ("lattice/src/check.rt", "if bad_length(g.dx) {", "if bad_length(v.k0) {\n        return Checked::Scalar(3);\n    }\n    if bad_length(g.dx) {"),
+    "turned-conjugate": ("weights/src/transfer.rt", "numbers::put(tvalues, tk + at, v);", "numbers::put(tvalues, tk + at, numbers::conj(v));"),
+    "dropped-given-away": ("weights/src/interpolate.rt", "one_pull(a, numbers::mul(numbers::one_minus(t), behind))", "one_pull(a, behind)"),
+    "lost-inverse": ("weights/src/interpolate.rt", "numbers::inv(C64 { re, im })", "C64 { re, im }"),
+    "another-order": ("weights/src/rows.rt", "numbers::mul(numbers::mul(x.weight, y.weight), z.weight)", "numbers::mul(x.weight, numbers::mul(y.weight, z.weight))"),
+    "own-places": ("weights/src/tables.rt", "if slot_along(q) {\n        return q % 64;", "if q < 384 {\n        return q % 64;"),
+    "arithmetic-mean": ("weights/src/eps.rt", "numbers::real_over(1.0, numbers::get(eps, from + c))", "numbers::get(eps, from + c)"),
+    "weight-one-left-out": ("weights/src/interpolate.rt", "numbers::mul(t, ahead)", "t"),
     "wrong-limit": ("lattice/src/check.rt", "4096 < g.nx", "4095 < g.nx"),
 }
 
