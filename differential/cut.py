@@ -35,12 +35,16 @@ ITEMS = [
     (MULTIGRID, "Stretched", ["fn new"]),
     (MULTIGRID, None, ["fn stencil_row"]),
     (MULTIGRID, None, ["struct Transfer"]),
-    (MULTIGRID, "Transfer", ["fn from_rows", "fn transpose"]),
+    (MULTIGRID, "Transfer", ["fn from_rows", "fn transpose", "fn row", "fn apply"]),
     (MULTIGRID, None, ["fn interpolate_line", "fn coarse_eps", "type Weights", "fn prolongation"]),
+    (MULTIGRID, None, [
+        "enum Coarse", "type Rows", "fn galerkin", "fn assembled", "fn volumes", "fn rediscretized_lattice", "fn averaged_eps",
+    ]),
 ]
 
-# What is changed: the item, a pattern, what takes its place, the reason. All are ordered by the specification but the one
-# that only gives the second copy of `coarser` its name.
+# What is changed: the item, a pattern, what takes its place, the reason. All are ordered by the specification but those
+# that only give the second copy of `coarser` its name, leave out a count of memory traffic, or leave the stretches of a
+# Galerkin level empty, which nothing reads.
 CHANGES = [
     ("Lattice::shift", r"\{ k \}", "{ p }", "a Bloch axis carries its phase p in place of the wavenumber"),
     ("Lattice::shift", r"\n *let turns = [^\n]*", "", "p is handed in in place of from_polar"),
@@ -56,10 +60,23 @@ CHANGES = [
     ("prolongation", r"Edges::Pml \{ \.\. \}", "Edges::Pml", "a wall holds nothing"),
     ("prolongation", r"\n *use rayon::prelude::\*;", "", "a plain loop in place of rayon's"),
     ("prolongation", r"\n *\.into_par_iter\(\)\n *\.with_min_len\(4096\)", "", "a plain loop in place of rayon's"),
+    ("Transfer::apply", r"\n *use rayon::prelude::\*;", "", "a plain loop in place of rayon's"),
+    ("Transfer::apply", r"\n *crate::traffic::add\([^\n]*", "", "nothing counts memory traffic here"),
+    ("Transfer::apply", r"par_iter_mut\(\)\n *\.with_min_len\(4096\)", "iter_mut()", "a plain loop in place of rayon's"),
+    ("galerkin", r"\n *use rayon::prelude::\*;", "", "a plain loop in place of rayon's"),
+    ("galerkin", r"\n *\.into_par_iter\(\)(\n *//[^\n]*)*\n *\.with_min_len\([^\n]*\)", "", "a plain loop in place of rayon's"),
+    ("assembled", r"\n *use rayon::prelude::\*;", "", "a plain loop in place of rayon's"),
+    ("assembled", r"\n *\.into_par_iter\(\)\n *\.with_min_len\(4096\)", "", "a plain loop in place of rayon's"),
+    ("averaged_eps", r"\n *use rayon::prelude::\*;", "", "a plain loop in place of rayon's"),
+    ("averaged_eps", r"\n *\.into_par_iter\(\)\n *\.with_min_len\(4096\)", "", "a plain loop in place of rayon's"),
+    ("setup", r"Lattice::new\(gc, fine\.boundaries, fine\.k0\)",
+     "Lattice { grid: gc, boundaries: fine.boundaries, k0: fine.k0, nodes: Default::default(), halves: Default::default() }",
+     "a Galerkin level's stretches, which nothing reads"),
 ]
 
-# The level loop: lines of Hierarchy::build, in their order, cut by how they begin, and lines of our own (marked +),
-# which stand for the work on matrices between them.
+# The level loop, twice: statements of Hierarchy::build, in their order, cut by how they begin, and lines of our own (marked
+# +). A part marked * is a whole statement, any other the line alone. First the lines of the levels, without the work on
+# matrices between them; then all of it but the factorization and the smoothers, called with no matrix.
 LOOP = [
     "+pub fn level_lines(lattice: &Lattice, options: &Options) -> Option<Vec<[Line; 3]>> {",
     "+let mut levels = Vec::new();",
@@ -78,10 +95,53 @@ LOOP = [
     "+levels.push(lines);",
     "+return Some(levels);",
     "+}",
-    "let gc = Grid3d {",
+    "*let gc = Grid3d {",
     "+fine.grid = gc;",
     "+levels.push(lines);",
     "lines = next_lines",
+    "+}",
+    "+}",
+]
+SETUP = [
+    "+pub fn setup(lattice: &Lattice, eps: &[c64], options: &Multigrid) -> Option<Vec<Level>> {",
+    "+let matrix: Option<Sparse> = None;",
+    "+let mut levels: Vec<Level> = Vec::new();",
+    "let mut fine = ",
+    "let g = lattice",
+    "let mut lines = ",
+    "let stretched = ",
+    "let mut a = matrix",
+    "let mut eps = ",
+    "let mut eps_operator = ",
+    "*let bloch =",
+    "loop {",
+    "+if levels.len() == 12 { return None; }",
+    "let n = ",
+    "let anisotropy = ANISOTROPY",
+    "let target = ",
+    "let next_lines = ",
+    "let cells = ",
+    "if n <= options.coarsest",
+    "*let a = match a {",
+    "+levels.push(Level { lines, eps, eps_operator, operator: Some(a), transfer: None, scaling: None });",
+    "+return Some(levels);",
+    "+}",
+    "*let gc = Grid3d {",
+    "let rediscretized = ",
+    "*let coarse = if rediscretized {",
+    "let gc = coarse",
+    "let nodes = ",
+    "let eps_c = ",
+    "*let prolongation = prolongation(",
+    "let prolongation = Transfer",
+    "let restriction = ",
+    "*let (next, eps_next, scaling) = if rediscretized {",
+    "+levels.push(Level { lines, eps, eps_operator, operator: a, transfer: Some((prolongation, restriction)), scaling });",
+    "a = Some(next)",
+    "fine = coarse",
+    "lines = next_lines",
+    "eps = eps_c",
+    "eps_operator = eps_next",
     "+}",
     "+}",
 ]
@@ -104,6 +164,52 @@ pub struct Options {
 pub fn squares(d: c64) -> f64 {
     d.re * d.re + d.im * d.im
 }
+
+// What a setup reads of Multigrid.
+pub struct Multigrid {
+    pub shift: f64,
+    pub coarsest: usize,
+    pub coarse: Coarse,
+}
+
+// In place of krylov's: the rows, without their transpose.
+pub struct Sparse {
+    pub starts: Vec<usize>,
+    pub columns: Vec<usize>,
+    pub values: Vec<c64>,
+}
+
+impl Sparse {
+    pub fn from_rows(rows: Vec<Vec<(usize, c64)>>) -> Sparse {
+        let Transfer { starts, columns, values } = Transfer::from_rows(&rows);
+        Sparse { starts, columns, values }
+    }
+
+    pub fn row(&self, r: usize) -> impl Iterator<Item = (usize, c64)> + '_ {
+        (self.starts[r]..self.starts[r + 1]).map(|k| (self.columns[k], self.values[k]))
+    }
+}
+
+// In place of rayon's map_init: one scratch for all rows.
+trait MapInit: Iterator + Sized {
+    fn map_init<S, R>(self, init: impl FnOnce() -> S, mut each: impl FnMut(&mut S, Self::Item) -> R) -> impl Iterator<Item = R> {
+        let mut scratch = init();
+        self.map(move |item| each(&mut scratch, item))
+    }
+}
+
+impl<I: Iterator> MapInit for I {}
+
+// What the level loop leaves of a level: its lines, the permittivities of the transfers and of the operators, its matrix if it has one; and of the
+// transfer to the next level the rows, forward and turned, the fine volumes and the inverse shares.
+pub struct Level {
+    pub lines: [Line; 3],
+    pub eps: Vec<c64>,
+    pub eps_operator: Vec<c64>,
+    pub operator: Option<Sparse>,
+    pub transfer: Option<(Transfer, Transfer)>,
+    pub scaling: Option<(Vec<c64>, Vec<c64>)>,
+}
 """
 
 # Wrong changes, to see that the run can fail: the item, a pattern, what takes its place.
@@ -125,6 +231,26 @@ FAULTS = {
     "mean-of-two": ("coarse_eps", r"1\.0 / eps", "2.0 / eps"),
     "fixed-weighted": ("prolongation", r"if coarse\.fixed\(col\)", "if false"),
     "other-map": ("level_lines", r"stretched\.across", "stretched.along"),
+    "graddiv-order": ("Lattice::row_into", r"-s \* wg \* wd \* eps\[col\] \* inverse", "-s * wg * wd * inverse * eps[col]"),
+    "sums-from-zero": ("stencil_row", r"_ => out\.push\(\(col, v\)\)", "_ => out.push((col, c64::new(0.0, 0.0) + v))"),
+    "shift-first": ("stencil_row", r"(row_into\([^\n]*)((?:.|\n)*?)\n    if shift (?:.|\n)*\n    \}\n",
+                    r"\1\n    if shift != 0.0 && !lattice.fixed(r) {\n"
+                    r"        scratch.insert(0, (r, c64::new(0.0, shift * (lattice.k0 * lattice.k0)) * eps[r]));\n    }\2\n"),
+    "shift-grouping": ("stencil_row", r"shift \* k2", "shift * lattice.k0 * lattice.k0"),
+    "two-weights-first": ("galerkin", r"wv \* u", "w * u * v"),
+    "value-first": ("galerkin", r"wv \* u", "w * (v * u)"),
+    "diagonal-everywhere": ("galerkin", r"touched\.sort_unstable\(\)", "sums[c] = c64::new(1.0, 0.0); touched.sort_unstable()"),
+    "diagonal-zero": ("galerkin", r"sums\[c\] = c64::new\(1\.0, 0\.0\)", "sums[c] = zero"),
+    "entry-left-out": ("galerkin", r"touched\.sort_unstable\(\)", "touched.truncate(59); touched.sort_unstable()"),
+    "walk-too-far": ("averaged_eps", r"if place >= at", "if place > at"),
+    "grouped-mean": ("averaged_eps", r"wb \* wc \* count / inverse", "wb * wc * (count / inverse)"),
+    "grouped-step": ("rediscretized_lattice", r"g\.step\(axis\) \* g\.n\(axis\) as f64 / n as f64", "g.step(axis) * (g.n(axis) as f64 / n as f64)"),
+    "wall-node-once": ("rediscretized_lattice", r"2\.0 \* \(along", "1.0 * (along"),
+    "bloch-node-stretched": ("rediscretized_lattice", r"else if bloch", "else if false"),
+    "volume-of-nodes": ("volumes", r"if b == a", "if b != a"),
+    "zero-share": ("setup", r"c64::new\(1\.0, 0\.0\)", "c64::new(0.0, 0.0)"),
+    "first-chain": ("setup", r"assembled\(&coarse, &eps_next,", "assembled(&coarse, &eps_c,"),
+    "finest-volumes": ("setup", r"volumes\(&fine\)", "volumes(lattice)"),
 }
 
 
@@ -181,22 +307,34 @@ def cut(lines, of, item):
     return full, "\n".join(block(lines, at, full))
 
 
-def cut_loop(lines):
-    """The level loop, put together from lines of Hierarchy::build."""
+def statement(lines, at, name):
+    """The statement that starts at a line: up to the semicolon that ends it."""
+    depth = 0
+    for last in range(at, len(lines)):
+        code = lines[last].split("//")[0].rstrip()
+        depth += sum(code.count(c) for c in "([{") - sum(code.count(c) for c in ")]}")
+        if depth == 0 and code.endswith(";"):
+            return lines[at:last + 1]
+    stop(f"the statement `{name}..` of build doesn't end")
+
+
+def cut_loop(lines, parts):
+    """The level loop, put together from statements of Hierarchy::build."""
     where, _ = inside(lines, "Hierarchy", "build")
     at = only([k for k in where if re.match(r"    fn build\(", lines[k])], "fn build of Hierarchy")
     body = block(lines, at, "build")
     out, last = [], 0
-    for part in LOOP:
+    for part in parts:
         if part.startswith("+"):
             out.append(part[1:])
             continue
-        hit = only([k for k, line in enumerate(body) if line.strip().startswith(part)], f"the line `{part}..` of build")
+        start = part.lstrip("*")
+        hit = only([k for k, line in enumerate(body) if line.strip().startswith(start)], f"the line `{start}..` of build")
         if hit <= last:
-            stop(f"the line `{part}..` of build stands before the one that it should follow")
+            stop(f"the line `{start}..` of build stands before the one that it should follow")
         last = hit
-        out += block(body, hit, part) if part.endswith("Grid3d {") else [body[hit]]
-    return "level_lines", "\n".join(line for line in out if not line.strip().startswith("#["))
+        out += statement(body, hit, start) if part.startswith("*") else [body[hit]]
+    return "\n".join(line for line in out if not line.strip().startswith("#["))
 
 
 def change(items, full, pattern, text, why):
@@ -232,8 +370,8 @@ def main():
         for item in wanted:
             full, text = cut(files[name], of, item)
             items[full], of_type[full] = text, of
-    full, text = cut_loop(files[MULTIGRID])
-    items[full], of_type[full] = text, None
+    for full, parts in (("level_lines", LOOP), ("setup", SETUP)):
+        items[full], of_type[full] = cut_loop(files[MULTIGRID], parts), None
     for full, pattern, text, why in CHANGES:
         change(items, full, pattern, text, why)
     if fault:

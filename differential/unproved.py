@@ -1,11 +1,12 @@
 #!/usr/bin/env python3
-"""The code under test with a planted fault, as a library that nothing proves.
+"""The code under test, as it is or with a planted fault, as a library that nothing proves.
 
     unproved.py CRATES OUT [FAULT]
 
 The prover makes no library of code with a fault in it, so here the .rt files, contracts left out, are put together
-as one Rust file and compiled by rustc into libraries in OUT. Only to see that the run can fail. Without FAULT the
-code is left as it is; each of FAULTS must hit exactly once. `--list` names them.
+as one Rust file and compiled by rustc into libraries in OUT. Only to see that the run can fail, and to compare a layer
+before its proofs are there; exports.rs exports what no crate does yet. Without FAULT the code is left as it is; each of
+FAULTS must hit exactly once. `--list` names them.
 """
 
 import os
@@ -41,6 +42,60 @@ FAULTS = {
     "arithmetic-mean": ("weights/src/eps.rt", "numbers::real_over(1.0, numbers::get(eps, from + c))", "numbers::get(eps, from + c)"),
     "weight-one-left-out": ("weights/src/interpolate.rt", "numbers::mul(t, ahead)", "t"),
     "wrong-limit": ("lattice/src/check.rt", "4096 < g.nx", "4095 < g.nx"),
+    "operator-inverse": ("lattice/src/neighbours.rt", "numbers::conj(C64 { re, im })", "numbers::inv(C64 { re, im })"),
+    "graddiv-order": ("lattice/src/rows.rt", "numbers::mul(numbers::mul(w, numbers::get(eps, column)), inverse)",
+                      "numbers::mul(numbers::mul(w, inverse), numbers::get(eps, column))"),
+    "sums-from-zero": ("operators/src/stencil.rt", "columns[p] = c;\n    numbers::put(values, p, v);",
+                       "columns[p] = c;\n    numbers::put(values, p, numbers::add(numbers::zero(), v));"),
+    "shift-first": ("operators/src/stencil.rt", """\
+    let n = unshifted_row(l, st, eps, r, columns, values);
+    if l.shift != 0.0 {
+        if !neighbours::fixed(l, st, r) {
+            return insert(columns, values, n, r, shift_number(l, st, eps, r));
+        }
+    }
+    n
+""", """\
+    if l.shift == 0.0 || neighbours::fixed(l, st, r) {
+        return unshifted_row(l, st, eps, r, columns, values);
+    }
+    let mut cs = [0usize; 29];
+    let mut xs = [0.0; 58];
+    let n = rows::row_into(l, st, eps, r, &mut cs, &mut xs);
+    let mut k = insert(columns, values, 0, r, shift_number(l, st, eps, r));
+    for m in 0..n {
+        k = insert(columns, values, k, cs[m], numbers::get(&xs, m));
+    }
+    k
+"""),
+    "shift-grouping": ("operators/src/stencil.rt", "l.shift * (l.k0 * l.k0)", "l.shift * l.k0 * l.k0"),
+    "fixed-shifted": ("operators/src/stencil.rt", "if !neighbours::fixed(l, st, r) {", "if r < 12288 {"),
+    "last-row-finite": ("operators/src/stencil.rt", "finite = finite && row.finite;", "finite = row.finite;"),
+    "two-weights-first": ("operators/src/galerkin.rt", "add_column(numbers::mul(w, v), cs[at + q], p, starts, columns, values, n, m, sums);", """\
+let c = cs[at + q];
+        for e in p.k + starts[p.s + c]..p.k + starts[p.s + c + 1] {
+            add_term(sums, columns[e], numbers::mul(numbers::mul(w, numbers::get(values, e)), v));
+        }"""),
+    "diagonal-everywhere": ("operators/src/galerkin.rt", "if tstarts[ts + c] == tstarts[ts + c + 1] {", "if tstarts[ts + c] <= tstarts[ts + c + 1] {"),
+    "diagonal-zero": ("operators/src/galerkin.rt", "numbers::put(sums, c, numbers::one());", "numbers::put(sums, c, numbers::zero());"),
+    "sums-kept": ("operators/src/galerkin.rt", "numbers::put(sums, columns[k + q], numbers::zero());", ""),
+    "entry-left-out": ("operators/src/base.rt", "return both(live(bloch, 1, j), either(here, up));", "return both(live(bloch, 1, j), here);"),
+    "period-left-out": ("operators/src/base.rt", "either(near, wrapped)\n", "near\n"),
+    "entry-too-many": ("operators/src/base.rt", "return both(live(bloch, 0, i), here);", "return both(live(bloch, 0, i), either(here, up));"),
+    "same-for-near": ("operators/src/tables.rt", "ty: word(t, 1, a, b, a == b, y),", "ty: word(t, 1, a, b, false, y),"),
+    "one-weight": ("operators/src/pattern.rt", "for d in 0..n {\n        w = words::mix", "for d in 0..n % 2 {\n        w = words::mix"),
+    "fixed-counted": ("operators/src/pattern.rt", "tables::row_count(t, g, fixed, p)", "tables::row_count(t, g, false, p)"),
+    "walk-too-far": ("operators/src/averaged.rt", "if place >= at {", "if place > at {"),
+    "hat-by-difference": ("operators/src/averaged.rt", "1.0 - distance as f64 / width as f64", "(width - distance) as f64 / width as f64"),
+    "wall-wraps": ("operators/src/averaged.rt", "let wy = lattice::lattice::is_wall(l.y);", "let wy = false;"),
+    "grouped-mean": ("operators/src/averaged.rt", "numbers::real_over(w * count as f64, inverse)",
+                     "numbers::real_times(w, numbers::real_over(count as f64, inverse))"),
+    "grouped-step": ("operators/src/rediscretized.rt", "grid::step(g, axis) * cells as f64 / n as f64", "grid::step(g, axis) * (cells as f64 / n as f64)"),
+    "wall-node-once": ("operators/src/rediscretized.rt", "numbers::real_times(2.0, ", "numbers::real_times(1.0, "),
+    "volume-of-nodes": ("operators/src/volumes.rt", "if axis == p.component {", "if axis != p.component {"),
+    "zero-share": ("operators/src/volumes.rt", "return numbers::one();", "return numbers::zero();"),
+    "share-without-last": ("operators/src/volumes.rt", "for q in first..last {", "for q in first..last - (last - first) / 2 {"),
+    "inverse-finite": ("operators/src/volumes.rt", "(numbers::is_finite(v) && numbers::is_finite(w))", "numbers::is_finite(v)"),
 }
 
 
@@ -89,7 +144,7 @@ def main():
     parts = ["#![allow(unused, improper_ctypes_definitions)]",
              "pub mod numbers {\n" + plain(crates, "numbers/src/lib.rt", fault) + "\n}"]
     # the crates of modules, then those of one file; each sees those before it
-    for crate, above in (("lattice", ["numbers"]), ("weights", ["numbers", "lattice"])):
+    for crate, above in (("lattice", ["numbers"]), ("weights", ["numbers", "lattice"]), ("operators", ["numbers", "lattice", "weights"])):
         parts.append(f"pub mod {crate} {{")
         for name in sorted(os.listdir(os.path.join(crates, crate, "src"))):
             if name != "lib.rt":
@@ -99,6 +154,9 @@ def main():
     for crate, above in (("lattice_c", ["numbers", "lattice"]), ("weights_c", ["numbers", "lattice", "weights", "lattice_c"])):
         text = plain(crates, f"{crate}/src/lib.rt", fault)
         parts.append(f"pub mod {crate} {{\n{inside(text, crate, above)}\n}}")
+    # what no crate exports yet
+    with open(os.path.join(os.path.dirname(os.path.abspath(__file__)), "exports.rs"), encoding="utf-8") as file:
+        parts.append("pub mod exports {\n" + file.read() + "\n}")
     os.makedirs(out, exist_ok=True)
     with open(os.path.join(out, "unproved.rs"), "w", encoding="utf-8") as file:
         file.write("\n".join(parts))
@@ -108,8 +166,8 @@ def main():
                           cwd=out, stderr=subprocess.PIPE, text=True)
     if made.returncode != 0:
         stop("the files don't compile as Rust:\n" + made.stderr)
-    # all of it in one of the libraries that the driver links, the other empty
-    for library, members in (("liblattice_c.a", ["unproved.o"]), ("libweights_c.a", [])):
+    # all of it in one of the libraries that the driver links, the others empty
+    for library, members in (("liblattice_c.a", ["unproved.o"]), ("libweights_c.a", []), ("liboperators_c.a", [])):
         if os.path.exists(os.path.join(out, library)):
             os.remove(os.path.join(out, library))
         subprocess.run(["ar", "crs", library] + members, cwd=out, check=True)

@@ -7,4 +7,11 @@ fn main() {
         println!("cargo:rerun-if-changed={folder}/lib{name}.a");
         println!("cargo:rustc-link-lib=static={name}");
     }
+    // the operators layer, where there is a library of it
+    println!("cargo:rustc-check-cfg=cfg(operators)");
+    println!("cargo:rerun-if-changed={folder}/liboperators_c.a");
+    if std::path::Path::new(&folder).join("liboperators_c.a").exists() {
+        println!("cargo:rustc-link-lib=static=operators_c");
+        println!("cargo:rustc-cfg=operators");
+    }
 }

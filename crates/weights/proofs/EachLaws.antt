@@ -1,4 +1,4 @@
--- Lists from `each`: sieved lists and products of them, the columns of lists of terms, how many elements there are, and what holds for all of them.
+-- Lists from `each`: sieved lists and products of them, the columns and numbers of lists of terms, how many elements there are, and what holds for all of them.
 -- Assumes nothing.
 use Prim.Native.Nat.{ℕ, zero, suc, _*_, _<_}
 use native.Mathlib.Omega.{arith}
@@ -90,11 +90,35 @@ module _ (f : Term → List Term) (g : ℕ → List ℕ) (h : (t : Term) → col
   pub columns-each : (ts : List Term) {ms : List ℕ} → columnsOf ts ≡ ms → columnsOf (each f ts) ≡ each g ms
   columns-each ts e = each-columns ts ∙ ap (each g) e
 
--- as many numbers as columns
-pub numbers-many : (ts : List Term) → length (numbersOf ts) ≡ length (columnsOf ts)
-unfolding numbersOf columnsOf
-numbers-many [] = refl
-numbers-many (t ∷ ts) = ap suc (numbers-many ts)
+-- ---- columns and numbers of terms, one each
+
+pub numbers-append : (ts us : List Term) → numbersOf (ts ++ us) ≡ numbersOf ts ++ numbersOf us
+unfolding numbersOf
+numbers-append [] us = refl
+numbers-append (t ∷ ts) us = rw (numbers-append ts us)
+
+pub length-columns : (ts : List Term) → length (columnsOf ts) ≡ length ts
+unfolding columnsOf
+length-columns [] = refl
+length-columns (t ∷ ts) = ap suc (length-columns ts)
+
+pub length-numbers : (ts : List Term) → length (numbersOf ts) ≡ length ts
+unfolding numbersOf
+length-numbers [] = refl
+length-numbers (t ∷ ts) = ap suc (length-numbers ts)
+
+-- by place; d past the end
+pub columns-at : (ts : List Term) (i : ℕ) (d : Term) → getD (columnsOf ts) i (d .column) ≡ getD ts i d .column
+unfolding columnsOf
+columns-at [] i d = refl
+columns-at (t ∷ ts) zero d = refl
+columns-at (t ∷ ts) (suc i) d = columns-at ts i d
+
+pub numbers-at : (ts : List Term) (i : ℕ) (d : Term) → getD (numbersOf ts) i (d .number) ≡ getD ts i d .number
+unfolding numbersOf
+numbers-at [] i d = refl
+numbers-at (t ∷ ts) zero d = refl
+numbers-at (t ∷ ts) (suc i) d = numbers-at ts i d
 
 -- ---- how many elements
 

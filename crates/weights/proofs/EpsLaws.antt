@@ -1,7 +1,7 @@
 -- Laws of the coarse permittivities: the edges of a coarse edge's cell, by the nodes in a list; the loops over a cell and over a level; that the list of
 -- nodes gives what the two levels do.
 -- Assumes nothing.
-use Prim.Native.Nat.{ℕ, zero, suc, _+_, _-_, _*_, _/_, _%_, _<_, _≤_, _^_, suc-le-suc}
+use Prim.Native.Nat.{ℕ, zero, suc, _+_, _-_, _*_, _<_, _≤_, _^_, suc-le-suc}
 use native.Mathlib.Numerals.{add-one}
 use native.Mathlib.Omega.{arith}
 use mathlib.Core.Path.{_≡_, refl, sym, ap, _∙_}
@@ -21,19 +21,19 @@ use Rattle.lattice.specs.declared.grid.Position.{Position}
 use Rattle.lattice.specs.declared.levels.Three.{Three}
 use Rattle.lattice.specs.Grid.{axis3, nOf, indexOf, atOf, unknownsOf, placeOn, movedTo, Limits, Inside}
 use Rattle.lattice.specs.Lattice.{Medium, tabulate}
-use Rattle.lattice.specs.Line.{endsOf, before, Rises}
+use Rattle.lattice.specs.Line.{before, Rises}
 use Rattle.lattice.specs.Rows.{summed}
-use Rattle.lattice.proofs.GridLaws.{axis-both, axis-each, n-most, place-inside, moved-inside, index-below, at-inside, unknowns-most}
-use Rattle.lattice.proofs.LineLaws.{length-ends, nodes-at, rises-below}
+use Rattle.lattice.proofs.GridLaws.{axis-each, n-most, place-inside, moved-inside, index-below, at-inside, unknowns-most}
+use Rattle.lattice.proofs.LineLaws.{nodes-at, rises-below}
 use Rattle.lattice.proofs.RowLaws.{small-float}
-use Rattle.lattice.proofs.TabulateLaws.{length-tabulate, tabulate-at-0, tabulate-agree}
+use Rattle.lattice.proofs.TabulateLaws.{length-tabulate, tabulate-agree}
 use Rattle.weights.proofs.ListLaws.{laid-numbers-length, read-back}
-use Rattle.weights.specs.Lists.{laidBy, laidNumbers, readBy, allFinite}
+use Rattle.weights.proofs.TwoLevelLaws.{fine-grid, coarse-grid, fine-n, coarse-n, node-at}
+use Rattle.weights.specs.Lists.{laidBy, laidNumbers, allFinite}
 use Rattle.weights.specs.TwoLevels.{
   TwoLevels,
   fineLine,
   coarseLine,
-  fineCells,
   coarseCells,
   nodeOn,
   gridWith,
@@ -42,15 +42,12 @@ use Rattle.weights.specs.TwoLevels.{
   twoOf,
 }
 use Rattle.weights.specs.Interpolate.{whole}
-use Rattle.weights.specs.CoarseEps.{onFine, fineEdge, cellEdges, epsReads, inverted, harmonic, coarseEps}
+use Rattle.weights.specs.CoarseEps.{onFine, edgeAlong, edgesAlong, cellEdges, epsReads, inverted, harmonic, coarseEps}
 use Rattle.weights.specs.Tables.{
   nodeNo,
-  HeldThree,
   Paired,
   readFrom,
   onFineIn,
-  edgeAlong,
-  cellEdgesIn,
   cellFirst,
   cellLast,
   coarseEpsIn,
@@ -62,8 +59,8 @@ use Rattle.weights.specs.Tables.{
 -- ---- a loop over a cell: the sum of the rest, from place m on, comes to the whole
 
 pub record Adding (g : Grid3d) (xs : List Float) (from : ℕ) (p : Position) (first last m : ℕ) (s : C64) : Type 0 where
-  pub same : summed (inverted (readFrom xs from)) s (cellEdgesIn g p m (last - m))
-      ≡ summed (inverted (readFrom xs from)) zeroNumber (cellEdgesIn g p first (last - first))
+  pub same : summed (inverted (readFrom xs from)) s (edgesAlong g p m (last - m))
+      ≡ summed (inverted (readFrom xs from)) zeroNumber (edgesAlong g p first (last - first))
 
 pub adding-start : {g : Grid3d} {xs : List Float} {from : ℕ} {p : Position} {first last : ℕ} {s : C64} → s ≡ zeroNumber → Adding g xs from p first last first s
 adding-start e = record { same = rw e }
@@ -71,13 +68,13 @@ adding-start e = record { same = rw e }
 module _ {g : Grid3d} {xs : List Float} {from : ℕ} {p : Position} {first last m : ℕ} {s : C64} (a : Adding g xs from p first last m s) where
   pub adding-turn : {q : Position} {c : ℕ} {v w s′ : C64} → m < last → q ≡ movedTo p (p .component) m → c ≡ indexOf g q
       → v ≡ numberAt xs (from + c) → w ≡ realOver oneF v → s′ ≡ sum s w → Adding g xs from p first last (m + 1) s′
-  unfolding cellEdgesIn tabulate summed inverted readFrom edgeAlong
+  unfolding edgesAlong tabulate summed inverted readFrom edgeAlong
   adding-turn {q} {c} {v} {w} {s′} h e₁ e₂ e₃ e₄ e₅ =
       let e : last - m ≡ suc (last - (m + 1)) = omega arith in
       record { same = rw (e₅, e₄, e₃, e₂, e₁, add-one m) (rw (e, add-one m) at (a .same)) }
 
-  pub adding-end : last ≤ m → s ≡ summed (inverted (readFrom xs from)) zeroNumber (cellEdgesIn g p first (last - first))
-  unfolding cellEdgesIn tabulate summed
+  pub adding-end : last ≤ m → s ≡ summed (inverted (readFrom xs from)) zeroNumber (edgesAlong g p first (last - first))
+  unfolding edgesAlong tabulate summed
   adding-end h = let e : last - m ≡ 0 = omega arith in rw e at (a .same)
 
 -- the position of place m along, and the number of its edge
@@ -126,8 +123,8 @@ pub record Cell (gf gc : Grid3d) (nn : List ℕ) (p : Position) (m : ℕ) : Type
   pub inside : Inside gc p
   pub place : m ≡ placeOn p (p .component)
 
-length-cell : (g : Grid3d) (p : Position) (first n : ℕ) → length (cellEdgesIn g p first n) ≡ n
-unfolding cellEdgesIn
+length-cell : (g : Grid3d) (p : Position) (first n : ℕ) → length (edgesAlong g p first n) ≡ n
+unfolding edgesAlong
 length-cell g p first n = length-tabulate (edgeAlong g p) n first
 
 -- the cell's two nodes
@@ -158,15 +155,15 @@ module _ {gf gc : Grid3d} {nn : List ℕ} {p : Position} {m : ℕ} (c : Cell gf 
   pub eps-is : (xs : List Float) (from r : ℕ) {q : Position} {s v : C64} → p ≡ atOf gc r → q ≡ onFineIn nn p
       → s
       ≡ summed (inverted (readFrom xs from)) zeroNumber
-      (cellEdgesIn gf q (getD nn (65 * p .component + m) 0) (getD nn (65 * p .component + m + 1) 0 - getD nn (65 * p .component + m) 0))
+      (edgesAlong gf q (getD nn (65 * p .component + m) 0) (getD nn (65 * p .component + m + 1) 0 - getD nn (65 * p .component + m) 0))
       → v ≡ realOver (ofInt binary64 (pos (getD nn (65 * p .component + m + 1) 0 - getD nn (65 * p .component + m) 0))) s
       → v ≡ coarseEpsIn gf gc nn (readFrom xs from) r
   unfolding coarseEpsIn harmonic whole
   eps-is xs from r {q} {s} {v} o u w x =
       let first : ℕ = getD nn (65 * p .component + m) 0 in
       let last : ℕ = getD nn (65 * p .component + m + 1) 0 in
-      let l : length (cellEdgesIn gf q first (last - first)) ≡ last - first = length-cell gf q first (last - first) in
-      let k : v ≡ harmonic (readFrom xs from) (cellEdgesIn gf q first (last - first)) = rw (l, ← w) x in
+      let l : length (edgesAlong gf q first (last - first)) ≡ last - first = length-cell gf q first (last - first) in
+      let k : v ≡ harmonic (readFrom xs from) (edgesAlong gf q first (last - first)) = rw (l, ← w) x in
       rw (← o, ← first-is, ← last-is, ← u) k
 
 -- ---- what is read: the edges of the fine grid alone
@@ -182,12 +179,12 @@ module _ (f g : ℕ → C64) where
 
   eps-agree : {gf gc : Grid3d} {nn : List ℕ} → Limits gf → Limits gc → NestedIn gf gc nn → ((c : ℕ) → c < unknownsOf gf → f c ≡ g c)
       → (r : ℕ) → r < unknownsOf gc → coarseEpsIn gf gc nn f r ≡ coarseEpsIn gf gc nn g r
-  unfolding coarseEpsIn harmonic cellEdgesIn edgeAlong
+  unfolding coarseEpsIn harmonic edgesAlong edgeAlong
   eps-agree {gf} {gc} {nn} lf lc d h r b =
       let p : Position = atOf gc r in
       let i : Inside gc p = at-inside lc r b in
       let k : LineInside gf (onFineIn nn p) (cellLast nn p) = cell-inside d i in
-      ap (realOver (whole (length (cellEdgesIn gf (onFineIn nn p) (cellFirst nn p) (cellLast nn p - cellFirst nn p)))))
+      ap (realOver (whole (length (edgesAlong gf (onFineIn nn p) (cellFirst nn p) (cellLast nn p - cellFirst nn p)))))
       (summed-agree (edgeAlong gf (onFineIn nn p)) (cellLast nn p - cellFirst nn p) (cellFirst nn p) zeroNumber
       (λ m a c. h (edgeAlong gf (onFineIn nn p) m) (index-below lf (k .each-in m (omega (arith, cell-rises d i))))))
 
@@ -205,7 +202,7 @@ chaining-start {f} {n} {to} {xs} =
     let b : n - 0 ≡ n = omega arith in
     record { high = omega arith; rest = rw (a, b); long = refl; left = λ j h. refl }
 
-chaining-one : {f : ℕ → C64} {n to : ℕ} {xs ys zs : List Float} {r : ℕ} {v : C64} → Chaining f n to xs ys r → r < n → v ≡ f r
+pub chaining-one : {f : ℕ → C64} {n to : ℕ} {xs ys zs : List Float} {r : ℕ} {v : C64} → Chaining f n to xs ys r → r < n → v ≡ f r
     → zs ≡ setNumber ys (to + r) v → Chaining f n to xs zs (r + 1)
 unfolding laidBy tabulate
 chaining-one {f} {n} {to} {xs} {ys} {zs} {r} {v} p h e q =
@@ -243,25 +240,6 @@ chaining-room m p = (omega (arith, m .apart, m .low), omega (arith, m .apart, m 
 
 -- ---- from the levels
 
--- the grid of a level, by the records of its lines
-grid-is : (g : Grid3d) (s : Three) → HeldThree s
-    → gridWith g (s .x .cells) (s .y .cells) (s .z .cells)
-    ≡ gridWith g (length (endsOf (s .x)) - 1) (length (endsOf (s .y)) - 1) (length (endsOf (s .z)) - 1)
-grid-is g s h =
-    let x : s .x .cells ≡ length (endsOf (s .x)) - 1 = omega (arith, length-ends (s .x) (h .x-held)) in
-    let y : s .y .cells ≡ length (endsOf (s .y)) - 1 = omega (arith, length-ends (s .y) (h .y-held)) in
-    let z : s .z .cells ≡ length (endsOf (s .z)) - 1 = omega (arith, length-ends (s .z) (h .z-held)) in
-    λ i. gridWith g (x i) (y i) (z i)
-
-module _ (l : Medium) (fine coarse : Three) where
-  pub fine-is : HeldThree fine → gridWith (l .grid) (fine .x .cells) (fine .y .cells) (fine .z .cells) ≡ fineGrid (twoOf l fine coarse)
-  unfolding fineGrid fineCells fineLine twoOf axis3
-  fine-is = grid-is (l .grid) fine
-
-  pub coarse-is : HeldThree coarse → gridWith (l .grid) (coarse .x .cells) (coarse .y .cells) (coarse .z .cells) ≡ coarseGrid (twoOf l fine coarse)
-  unfolding coarseGrid coarseCells coarseLine twoOf axis3
-  coarse-is = grid-is (l .grid) coarse
-
 -- the ends before a later place are at least as many
 before-more : (d e : ℕ) → d ≤ e → (es : List ℕ) → before d es ≤ before e es
 unfolding before
@@ -271,27 +249,6 @@ before-more d e h (f ∷ es) = go (ltb f d) refl (before-more d e h es)
     go : (s : Bool) → ltb f d ≡ s → before d es ≤ before e es → cond s (suc (before d es)) 0 ≤ before e (f ∷ es)
     go false q r = omega arith
     go true q r = rw (lt-ltb f e (omega (arith, ltb-true f d q))) (suc-le-suc r)
-
--- the cells of an axis
-axis-cells : (g : Grid3d) (x y z : List ℕ) (a : ℕ) → nOf (gridWith g (length x - 1) (length y - 1) (length z - 1)) a ≡ length (axis3 a x y z) - 1
-unfolding nOf gridWith
-axis-cells g x y z a = axis-both (λ (n : ℕ) (es : List ℕ). n ≡ length es - 1) a refl refl refl
-
-fine-n : (t : TwoLevels) (a : ℕ) → nOf (fineGrid t) a ≡ fineCells t a
-unfolding fineGrid fineCells fineLine axis3
-fine-n t a = axis-cells (t .base .grid) (t .fineX) (t .fineY) (t .fineZ) a
-
-coarse-n : (t : TwoLevels) (a : ℕ) → nOf (coarseGrid t) a ≡ coarseCells t a
-unfolding coarseGrid coarseCells coarseLine axis3
-coarse-n t a = axis-cells (t .base .grid) (t .coarseX) (t .coarseY) (t .coarseZ) a
-
--- the list of nodes has node m of axis a at 65 a + m
-node-at : (t : TwoLevels) (a m : ℕ) → a < 3 → m < 65 → getD (tabulate (nodeNo t) 195 0) (65 * a + m) 0 ≡ nodeOn t a m
-unfolding nodeNo
-node-at t a m h b =
-    let e : (65 * a + m) / 65 ≡ a = omega arith in
-    let d : (65 * a + m) % 65 ≡ m = omega arith in
-    tabulate-at-0 (nodeNo t) 195 (65 * a + m) 0 (omega arith) ∙ (λ i. nodeOn t (e i) (d i))
 
 -- the nodes of a rising line rise
 nodes-rise : (t : TwoLevels) (a m : ℕ) → Rises (coarseLine t a) → m < coarseCells t a → nodeOn t a m ≤ nodeOn t a (m + 1)
@@ -315,13 +272,13 @@ module _ {l : Medium} {fine coarse : Three} (p : Paired l fine coarse) where
       record {
         long = length-tabulate (nodeNo s) 195 0;
         inside = λ a m b h.
-            rw (node-at s a m b (omega (arith, few a)), fine-n s a) (p .nested a m (omega (arith, coarse-n s a)));
+            rw (node-at s refl a m b (omega (arith, few a)), fine-n s a) (p .nested a m (omega (arith, coarse-n s a)));
         ends-in = λ a m b h.
             let e : 65 * a + m + 1 ≡ 65 * a + (m + 1) = omega arith in
-            rw (e, node-at s a (m + 1) b (omega (arith, few a)), fine-n s a) (p .ended a (m + 1) (omega (arith, coarse-n s a)));
+            rw (e, node-at s refl a (m + 1) b (omega (arith, few a)), fine-n s a) (p .ended a (m + 1) (omega (arith, coarse-n s a)));
         rise = λ a m b h.
             let e : 65 * a + m + 1 ≡ 65 * a + (m + 1) = omega arith in
-            rw (e, node-at s a (m + 1) b (omega (arith, few a)), node-at s a m b (omega (arith, few a)))
+            rw (e, node-at s refl a (m + 1) b (omega (arith, few a)), node-at s refl a m b (omega (arith, few a)))
             (nodes-rise s a m (line-rises a) (omega (arith, coarse-n s a)));
       }
 
@@ -330,22 +287,22 @@ module _ (t : TwoLevels) (lc : Limits (coarseGrid t)) where
   on-fine-is : {p : Position} → Inside (coarseGrid t) p → onFineIn (tabulate (nodeNo t) 195 0) p ≡ onFine t p
   unfolding onFineIn onFine
   on-fine-is {p} h =
-      let a : getD (tabulate (nodeNo t) 195 0) (65 * 0 + p .i) 0 ≡ nodeOn t 0 (p .i) = node-at t 0 (p .i) (omega arith) (omega (arith, h .i-in, lc .x-most)) in
+      let a : getD (tabulate (nodeNo t) 195 0) (65 * 0 + p .i) 0 ≡ nodeOn t 0 (p .i) = node-at t refl 0 (p .i) (omega arith) (omega (arith, h .i-in, lc .x-most)) in
       let e : 65 * 0 + p .i ≡ p .i = omega arith in
       let x : getD (tabulate (nodeNo t) 195 0) (p .i) 0 ≡ nodeOn t 0 (p .i) = rw e at a in
-      let y : getD (tabulate (nodeNo t) 195 0) (65 + p .j) 0 ≡ nodeOn t 1 (p .j) = node-at t 1 (p .j) (omega arith) (omega (arith, h .j-in, lc .y-most)) in
-      let z : getD (tabulate (nodeNo t) 195 0) (130 + p .k) 0 ≡ nodeOn t 2 (p .k) = node-at t 2 (p .k) (omega arith) (omega (arith, h .k-in, lc .z-most)) in
+      let y : getD (tabulate (nodeNo t) 195 0) (65 + p .j) 0 ≡ nodeOn t 1 (p .j) = node-at t refl 1 (p .j) (omega arith) (omega (arith, h .j-in, lc .y-most)) in
+      let z : getD (tabulate (nodeNo t) 195 0) (130 + p .k) 0 ≡ nodeOn t 2 (p .k) = node-at t refl 2 (p .k) (omega arith) (omega (arith, h .k-in, lc .z-most)) in
       λ i. record { component = p .component; i = x i; j = y i; k = z i }
 
   cell-is : {p : Position} → Inside (coarseGrid t) p
-      → let nn = tabulate (nodeNo t) 195 0 in cellEdgesIn (fineGrid t) (onFineIn nn p) (cellFirst nn p) (cellLast nn p - cellFirst nn p) ≡ cellEdges t p
-  unfolding cellEdgesIn cellEdges cellFirst cellLast edgeAlong fineEdge onFine
+      → let nn = tabulate (nodeNo t) 195 0 in edgesAlong (fineGrid t) (onFineIn nn p) (cellFirst nn p) (cellLast nn p - cellFirst nn p) ≡ cellEdges t p
+  unfolding edgesAlong cellEdges cellFirst cellLast edgeAlong onFine
   cell-is {p} h =
       let c : ℕ = p .component in
       let m : ℕ = placeOn p c in
       let b : m < 64 = omega (arith, place-inside h c, n-most lc c) in
       let e : 65 * c + m + 1 ≡ 65 * c + (m + 1) = omega arith in
-      rw (e, node-at t c m (h .c-in) (omega arith), node-at t c (m + 1) (h .c-in) (omega arith), on-fine-is h)
+      rw (e, node-at t refl c m (h .c-in) (omega arith), node-at t refl c (m + 1) (h .c-in) (omega arith), on-fine-is h)
 
   eps-same : (f : ℕ → C64) (r : ℕ) → r < unknownsOf (coarseGrid t) → coarseEpsIn (fineGrid t) (coarseGrid t) (tabulate (nodeNo t) 195 0) f r ≡ coarseEps t f r
   unfolding coarseEpsIn coarseEps epsReads
@@ -376,8 +333,8 @@ chain {l} {fine} {coarse} p m a b c =
     record {
       paired = p;
       room = m;
-      fine-grid = a ∙ fine-is l fine coarse (p .fine-held);
-      coarse-grid = b ∙ coarse-is l fine coarse (p .coarse-held);
+      fine-grid = a ∙ fine-grid l fine coarse (p .fine-held);
+      coarse-grid = b ∙ coarse-grid l fine coarse (p .coarse-held);
       node-list = c;
     }
 
@@ -410,10 +367,10 @@ module _ {l : Medium} {fine coarse : Three} {gf gc : Grid3d} {nn : List ℕ} {fr
         let k : length ys ≡ length xs = ap length e ∙ laid-numbers-length xs to (tabulate (coarseEpsIn gf gc nn (readFrom xs from)) (unknownsOf gc) 0) in
         (omega (arith, chain-room .low, unknowns-most coarse-in), omega (arith, chain-room .room))
 
-    pub eps-finite : {n : ℕ} {b : Bool} → n ≡ unknownsOf gc → b ≡ allFinite (readBy numberAt ys to n)
+    pub eps-finite : {n : ℕ} {b : Bool} → n ≡ unknownsOf gc → b ≡ allFinite (tabulate (numberAt ys) n to)
         → b ≡ allFinite (tabulate (coarseEps (twoOf l fine coarse) (readFrom xs from)) (unknownsOf (coarseGrid (twoOf l fine coarse))) 0)
     eps-finite {n} {b} d f =
         let vs : List C64 = tabulate (coarseEpsIn gf gc nn (readFrom xs from)) (unknownsOf gc) 0 in
         let o : n ≡ length vs = d ∙ sym (length-tabulate (coarseEpsIn gf gc nn (readFrom xs from)) (unknownsOf gc) 0) in
-        let u : readBy numberAt ys to n ≡ vs = (λ i. readBy numberAt (e i) to (o i)) ∙ read-back xs to vs (omega (arith, chain-room .room)) in
+        let u : tabulate (numberAt ys) n to ≡ vs = (λ i. tabulate (numberAt (e i)) (o i) to) ∙ read-back xs to vs (omega (arith, chain-room .room)) in
         f ∙ ap allFinite (u ∙ laid-eps)

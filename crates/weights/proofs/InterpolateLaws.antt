@@ -1,6 +1,6 @@
--- Laws for the code of interpolation: n places of a list, and each branch gives what the definition says.
+-- Laws for the code of interpolation: each branch gives what the definition says.
 -- Assumes nothing.
-use Prim.Native.Nat.{ℕ, zero, suc, _+_, _-_, _*_, _<_, _≤_}
+use Prim.Native.Nat.{ℕ, suc, _+_, _-_, _*_, _<_, _≤_}
 use native.Mathlib.Omega.{arith}
 use mathlib.Core.Path.{_≡_, refl, sym, ap, subst, _∙_}
 use mathlib.Core.Bool.{Bool, true, false, cond, _&&_}
@@ -23,29 +23,14 @@ use Rattle.lattice.specs.Neighbours.{pastHigh}
 use Rattle.lattice.specs.Terms.{Term}
 use Rattle.lattice.proofs.LevelLaws.{in-double}
 use Rattle.lattice.proofs.LineLaws.{before-is}
-use Rattle.lattice.proofs.TabulateLaws.{length-tabulate, tabulate-at-0}
+use Rattle.lattice.proofs.TabulateLaws.{length-tabulate, tabulate-at, tabulate-at-0}
 use Rattle.weights.specs.declared.interpolate.Rule.{Rule}
 use Rattle.weights.specs.declared.interpolate.Rule.the-variants.{Coincides, Nearest, Between, Dropped}
 use Rattle.weights.specs.declared.interpolate.Spots.{Spots}
 use Rattle.weights.specs.declared.interpolate.Pulls.{Pulls}
 use Rattle.weights.specs.Interpolate.{upTo, meets, outside, ruleBy, ruleOf, pastFirst, lowSide, highSide, sidePlaces, rulePlaces, takenPlaces, whole, coordinate, lowCoordinate, highCoordinate, ratio, ratioAt, twoSides, ruleTerms, interpolated}
 use Rattle.weights.specs.Product.{keptPlaces, keptTerms}
-use Rattle.weights.specs.Tables.{placesIn, spotsOf, spotList, pullsOf, pullList, mapPoint, mapIn}
-
--- ---- n places of a list, from e on
-
-pub length-places : (ps : List ℕ) (e n : ℕ) → length (placesIn ps e n) ≡ n
-unfolding placesIn
-length-places ps e zero = refl
-length-places ps e (suc n) = ap suc (length-places ps (suc e) n)
-
-pub places-at : (ps : List ℕ) (e n m : ℕ) → m < n → getD (placesIn ps e n) m 0 ≡ getD ps (e + m) 0
-unfolding placesIn
-places-at ps e zero m h = absurd (omega arith)
-places-at ps e (suc n) zero h = let q : e ≡ e + 0 = omega arith in ap (λ (k : ℕ). getD ps k 0) q
-places-at ps e (suc n) (suc m) h =
-    let q : suc e + m ≡ e + suc m = omega arith in
-    places-at ps (suc e) n m (omega arith) ∙ ap (λ (k : ℕ). getD ps k 0) q
+use Rattle.weights.specs.Tables.{entryAt, placesIn, spotsOf, spotList, pullsOf, pullList, mapPoint, mapIn}
 
 -- the first place and the period
 pub first-wrapped : (ps : List ℕ) (e n period : ℕ) → 0 < n → period < 129 → ((m : ℕ) → m < n → getD ps (e + m) 0 < 129) → getD ps e 0 + period < 258
@@ -71,11 +56,11 @@ reached-turn {ps} {e} {n} {p} {m} r b h = record { high = omega arith; low = bel
 pub reached-is : {ps : List ℕ} {e n p m : ℕ} → Reached ps e n p m → (m < n → p < getD ps (e + m) 0) → (m ≡ upTo (placesIn ps e n) p) × (m ≤ n)
 unfolding upTo
 reached-is {ps} {e} {n} {p} {m} r h =
-    let l : length (placesIn ps e n) ≡ n = length-places ps e n in (
+    let l : length (placesIn ps e n) ≡ n = length-tabulate (entryAt ps) n e in (
       sym
           (before-is (suc p) (placesIn ps e n) m (omega (arith, r .high))
-          (λ k b. omega (arith, places-at ps e n k (omega (arith, r .high)), r .low k b))
-          (λ b. omega (arith, places-at ps e n m (omega arith), h (omega arith)))),
+          (λ k b. omega (arith, tabulate-at (entryAt ps) n e k 0 (omega (arith, r .high)), r .low k b))
+          (λ b. omega (arith, tabulate-at (entryAt ps) n e m 0 (omega arith), h (omega arith)))),
       r .high,
     )
 
@@ -91,7 +76,7 @@ meets-none cs p h q = rw q
 
 pub meets-last : (ps : List ℕ) (e n p h : ℕ) → (h ≡ 0 → ⊥) → h ≤ n → eqb (getD ps (e + (h - 1)) 0) p ≡ meets (placesIn ps e n) p h
 unfolding meets
-meets-last ps e n p h q b = rw (le-leb 1 h (omega arith), places-at ps e n (h - 1) (omega arith))
+meets-last ps e n p h q b = rw (le-leb 1 h (omega arith), tabulate-at (entryAt ps) n e (h - 1) 0 (omega arith))
 
 pub outside-low : (n h : ℕ) → h ≡ 0 → eqb h 0 ≡ outside n h
 unfolding outside
@@ -136,7 +121,7 @@ pub rule-is : (e : Edges) (ps : List ℕ) (from n : ℕ) (along : Bool) (p : ℕ
     → r ≡ ruleBy wall along n h met
     → r ≡ ruleOf e (placesIn ps from n) along p
 unfolding ruleOf
-rule-is e ps from n along p q m w r = rw (length-places ps from n, ← q, ← m, ← w) r
+rule-is e ps from n along p q m w r = rw (length-tabulate (entryAt ps) n from, ← q, ← m, ← w) r
 
 -- ---- the neighbours
 
@@ -218,7 +203,7 @@ pub taken-is : (e : Edges) (ps : List ℕ) (from n : ℕ) (along : Bool) (p : �
     → r ≡ spotsOf (keptPlaces wall (takenPlaces e (placesIn ps from n) along p))
 unfolding takenPlaces
 taken-is e ps from n along p wall {by} q t r =
-    rw (length-places ps from n, ← q)
+    rw (length-tabulate (entryAt ps) n from, ← q)
     (r ∙ ap (λ (ms : List ℕ). spotsOf (keptPlaces wall ms)) (ap spotList t ∙ places-few e n by))
 
 -- ---- coordinates
@@ -248,21 +233,21 @@ module _ (e : Edges) (x : List C64) (ps : List ℕ) (from n period h : ℕ) wher
       → record { re = subF (ofInt binary64 (pos (getD ps (from + (n - 1)) 0))) (ofInt binary64 (pos period)); im = zeroF }
       ≡ lowCoordinate e x (placesIn ps from n) period h
   unfolding lowCoordinate whole
-  low-wrapped q b = rw (eq-eqb h 0 q, length-places ps from n, places-at ps from n (n - 1) (omega arith))
+  low-wrapped q b = rw (eq-eqb h 0 q, length-tabulate (entryAt ps) n from, tabulate-at (entryAt ps) n from (n - 1) 0 (omega arith))
 
   pub low-inside : (h ≡ 0 → ⊥) → h ≤ n → coordinate e x (getD ps (from + (h - 1)) 0) ≡ lowCoordinate e x (placesIn ps from n) period h
   unfolding lowCoordinate
-  low-inside q b = rw (ne-eqb h 0 q, places-at ps from n (h - 1) (omega arith))
+  low-inside q b = rw (ne-eqb h 0 q, tabulate-at (entryAt ps) n from (h - 1) 0 (omega arith))
 
   pub high-wrapped : n ≤ h → 0 < n → coordinate e x (getD ps from 0 + period) ≡ highCoordinate e x (placesIn ps from n) period h
   unfolding highCoordinate
   high-wrapped q b =
       let z : from + 0 ≡ from = omega arith in
-      rw (length-places ps from n, le-leb n h q, places-at ps from n 0 b, z)
+      rw (length-tabulate (entryAt ps) n from, le-leb n h q, tabulate-at (entryAt ps) n from 0 0 b, z)
 
   pub high-inside : h < n → coordinate e x (getD ps (from + h) 0) ≡ highCoordinate e x (placesIn ps from n) period h
   unfolding highCoordinate
-  high-inside q = rw (length-places ps from n, lt-leb n h q, places-at ps from n h q)
+  high-inside q = rw (length-tabulate (entryAt ps) n from, lt-leb n h q, tabulate-at (entryAt ps) n from h 0 q)
 
 pub ratio-is : (p low high : C64) {a b r : C64} → a ≡ difference p low → b ≡ difference high low → r ≡ quotient a b → r ≡ ratio p low high
 unfolding ratio
@@ -367,7 +352,7 @@ pub interpolate-is : (e : Edges) (x : List C64) (ps : List ℕ) (from n period :
     → r ≡ pullsOf (keptTerms wall (interpolated e x (placesIn ps from n) period along p))
 unfolding interpolated
 interpolate-is e x ps from n period along p wall {by} {h} {t} q f g k r =
-    rw (length-places ps from n, ← q, ← f, ← g)
+    rw (length-tabulate (entryAt ps) n from, ← q, ← f, ← g)
     (r ∙ ap (λ (ts : List Term). pullsOf (keptTerms wall ts)) (ap pullList k ∙ terms-few e n t by))
 
 -- a place, or the sum of two, is a double

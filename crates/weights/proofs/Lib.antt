@@ -1,5 +1,6 @@
 pub mod EachLaws
 pub mod ListLaws
+pub mod TwoLevelLaws
 pub mod ProductLaws
 pub mod RowTheorems
 pub mod Tutorial

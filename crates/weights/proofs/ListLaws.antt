@@ -1,23 +1,23 @@
--- Lists that are laid over others, rows one behind another, and loops that lay a row at each turn.
+-- Lists that are laid over others, rows one behind another and their starts, tabulated lists, and loops that lay a row at each turn.
 -- Assumes nothing.
 use Prim.Native.Nat.{ℕ, zero, suc, _+_, _-_, _*_, _<_, _≤_}
 use mathlib.Core.Path.{_≡_, refl, sym, ap, _∙_}
-use mathlib.Core.Bool.{Bool, true, false, _&&_}
+use mathlib.Core.Bool.{true, false, _&&_}
 use mathlib.Core.List.{List, [], _∷_, _++_}
 use native.Mathlib.Omega.{arith}
+use native.Mathlib.Decide.{ℕ-discrete}
 use native.Mathlib.Numerals.{add-one}
 use native.Mathlib.Nat.{mul-suc}
-use borrow.Author.Tests.{ltb-true, ltb-false}
-use lib.Dec.{ltb}
-use lib.ListN.{length, getD, set, length-set, length-append}
-use lib.Seq.{ext-getD, getD-set-same, getD-set-other}
+use lib.ListN.{length, getD, set, length-set, length-append, List·getD-append}
+use lib.Seq.{getD-set-same, getD-set-other, getD-append-add}
 use lib.Ieee.{Float}
 use Rattle.numbers.specs.declared.C64.{C64}
 use Rattle.numbers.specs.Complex.{finite}
 use Rattle.numbers.specs.Places.{places, numberAt, setNumber}
 use Rattle.numbers.proofs.Laws.{length-setNumber, number-same, number-other, and-true, and-false}
 use Rattle.lattice.specs.Lattice.{tabulate}
-use Rattle.weights.specs.Lists.{rows, laidBy, laid, laidNumbers, Laid, readBy, allFinite}
+use Rattle.lattice.proofs.TabulateLaws.{length-tabulate, tabulate-at-0, tabulate-agree}
+use Rattle.weights.specs.Lists.{rows, laidBy, laid, laidNumbers, Laid, allFinite}
 use Rattle.weights.specs.Transfer.{startOf, startsOf}
 
 -- ---- values laid over a list: none, one, one list of them behind another
@@ -75,24 +75,6 @@ laid-inside xs k (v ∷ vs) (suc j) i e h r = laid-inside (set xs k v) (suc k) v
 pub laid-at : (xs : List ℕ) (k : ℕ) (vs : List ℕ) (j : ℕ) → j < length vs → k + length vs ≤ length xs → getD (laid xs k vs) (k + j) 0 ≡ getD vs j 0
 laid-at xs k vs j h r = laid-inside xs k vs j (k + j) refl h r
 
--- a list that has the values inside, and else what was there, is the laid one
-pub laid-is : (xs ys : List ℕ) (k : ℕ) (vs : List ℕ)
-    → length ys ≡ length xs → k + length vs ≤ length xs
-    → ((j : ℕ) → j < length vs → getD ys (k + j) 0 ≡ getD vs j 0)
-    → ((j : ℕ) → j < k → getD ys j 0 ≡ getD xs j 0)
-    → ((j : ℕ) → k + length vs ≤ j → getD ys j 0 ≡ getD xs j 0)
-    → ys ≡ laid xs k vs
-laid-is xs ys k vs l r inside before behind =
-    ext-getD 0 ys (laid xs k vs) (l ∙ sym (laid-length xs k vs)) (λ i b. go i (ltb i k) refl (ltb i (k + length vs)) refl)
-  where
-    go : (i : ℕ) (a : Bool) → ltb i k ≡ a → (b : Bool) → ltb i (k + length vs) ≡ b → getD ys i 0 ≡ getD (laid xs k vs) i 0
-    go i true p b q = let h : i < k = ltb-true i k p in before i h ∙ sym (laid-before xs k vs i h)
-    go i false p false q = let h : k + length vs ≤ i = ltb-false i (k + length vs) q in behind i h ∙ sym (laid-behind xs k vs i h)
-    go i false p true q =
-        let d : i ≡ k + (i - k) = omega (arith, ltb-false i k p) in
-        let h : i - k < length vs = omega (arith, ltb-false i k p, ltb-true i (k + length vs) q) in
-        ap (λ (m : ℕ). getD ys m 0) d ∙ inside (i - k) h ∙ sym (laid-inside xs k vs (i - k) i d h r)
-
 -- ---- numbers: the same
 
 pub laid-numbers-length : (xs : List Float) (k : ℕ) (vs : List C64) → length (laidNumbers xs k vs) ≡ length xs
@@ -127,14 +109,14 @@ pub laid-numbers-at : (xs : List Float) (k : ℕ) (vs : List C64) (j : ℕ) (d :
 laid-numbers-at xs k vs j d h r = laid-numbers-inside xs k vs j (k + j) d refl h r
 
 -- what was laid into a list with room is read back
-pub read-back : (xs : List Float) (k : ℕ) (vs : List C64) → 2 * (k + length vs) ≤ length xs → readBy numberAt (laidNumbers xs k vs) k (length vs) ≡ vs
-unfolding readBy laidBy places
+pub read-back : (xs : List Float) (k : ℕ) (vs : List C64) → 2 * (k + length vs) ≤ length xs → tabulate (numberAt (laidNumbers xs k vs)) (length vs) k ≡ vs
+unfolding tabulate laidBy places
 read-back xs k [] h = refl
 read-back xs k (v ∷ vs) h =
     let ys = setNumber xs k v in
     let here : numberAt (laidNumbers ys (suc k) vs) k ≡ v =
     laid-numbers-before ys (suc k) vs k (omega arith) ∙ number-same xs k v (omega arith) in
-    let rest : readBy numberAt (laidNumbers ys (suc k) vs) (suc k) (length vs) ≡ vs = read-back ys (suc k) vs (omega (arith, length-setNumber xs k v)) in
+    let rest : tabulate (numberAt (laidNumbers ys (suc k) vs)) (length vs) (suc k) ≡ vs = read-back ys (suc k) vs (omega (arith, length-setNumber xs k v)) in
     λ i. here i ∷ rest i
 
 -- ---- the lists keep their lengths
@@ -146,6 +128,10 @@ pub laid-numbers-same : {xs ys : List Float} {vs : List C64} {k r : ℕ} → Lai
 laid-numbers-same {xs} {ys} {vs} {k} {r} p = ap length (p .list) ∙ laid-numbers-length xs k vs
 
 -- ---- rows one behind another
+
+-- what f gives for element m
+abbrev pub through : {E A : Type 0} → (E → List A) → (ℕ → E) → ℕ → List A
+through f el m = f (el m)
 
 module _ {A : Type 0} where
   pub rows-agree : (f g : ℕ → List A) (n : ℕ) → ((r : ℕ) → r < n → f r ≡ g r) → rows f n ≡ rows g n
@@ -159,6 +145,26 @@ module _ {A : Type 0} where
   pub rows-length : (f : ℕ → List A) (n : ℕ) → length (rows f (suc n)) ≡ length (rows f n) + length (f n)
   unfolding rows
   rows-length f n = length-append (rows f n) (f n)
+
+  -- row r ends within the rows, and begins where those before it end
+  pub rows-room : (f : ℕ → List A) (n r : ℕ) → r < n → length (rows f r) + length (f r) ≤ length (rows f n)
+  rows-room f zero r h = absurd (omega arith)
+  rows-room f (suc n) r h = go (ℕ-discrete r n) (rows-room f n r)
+    where
+      go : Dec (r ≡ n) → (r < n → length (rows f r) + length (f r) ≤ length (rows f n)) → length (rows f r) + length (f r) ≤ length (rows f (suc n))
+      go (yes e) ih = rw e (omega (arith, rows-length f n))
+      go (no e) ih = omega (arith, ih (omega arith), rows-length f n)
+
+  pub rows-at : (f : ℕ → List A) (n r j : ℕ) (d : A) → r < n → j < length (f r) → getD (rows f n) (length (rows f r) + j) d ≡ getD (f r) j d
+  unfolding rows
+  rows-at f zero r j d h l = absurd (omega arith)
+  rows-at f (suc n) r j d h l = go (ℕ-discrete r n) (λ b. rows-at f n r j d b l)
+    where
+      go : Dec (r ≡ n) → (r < n → getD (rows f n) (length (rows f r) + j) d ≡ getD (f r) j d) → getD (rows f n ++ f n) (length (rows f r) + j) d ≡ getD (f r) j d
+      go (yes e) ih = rw e (getD-append-add (rows f n) (f n) j d)
+      go (no e) ih =
+          let b : r < n = omega arith in
+          List·getD-append (rows f n) (f n) d (length (rows f r) + j) (omega (arith, rows-room f n r b)) ∙ ih b
 
   -- at most b in each of the first n rows
   pub rows-most : (f : ℕ → List A) (b n : ℕ) → ((r : ℕ) → r < n → length (f r) ≤ b) → length (rows f n) ≤ b * n
@@ -190,13 +196,22 @@ module _ {L A : Type 0} {put : L → ℕ → A → L} {row : ℕ → List A} {n 
   pub laying-most : {xs₀ xs : L} {k m : ℕ} (b : ℕ) → Laying put row n from xs₀ xs k m → ((r : ℕ) → r < n → length (row r) ≤ b) → k ≤ from + b * m
   laying-most {xs₀} {xs} {k} {m} b u h = omega (arith, u .wrote .next, rows-most row b m (λ r l. h r (omega (arith, u .high))))
 
--- ---- the starts of rows: 0 first, and behind each row its end
+-- ---- tabulated lists
 
--- a tabulated list with one more at the end
+-- a list as tabulated: how long it is, and what is read at a place
+pub long-as : {A : Type 0} {xs : List A} (f : ℕ → A) (n : ℕ) → xs ≡ tabulate f n 0 → length xs ≡ n
+long-as {A} {xs} f n e = ap (λ (ys : List A). length ys) e ∙ length-tabulate f n 0
+
+pub read-at : {A : Type 0} {xs : List A} (f : ℕ → A) (n : ℕ) → xs ≡ tabulate f n 0 → (i : ℕ) (d : A) → i < n → getD xs i d ≡ f i
+read-at {A} {xs} f n e i d h = ap (λ (ys : List A). getD ys i d) e ∙ tabulate-at-0 f n i d h
+
+-- with one more at the end
 pub tabulate-more : {A : Type 0} (f : ℕ → A) (n k j : ℕ) → j ≡ k + n → tabulate f (suc n) k ≡ tabulate f n k ++ (f j ∷ [])
 unfolding tabulate
 tabulate-more f zero k j e = let d : k ≡ j = omega arith in rw d
 tabulate-more f (suc n) k j e = rw (tabulate-more f n (suc k) j (omega arith))
+
+-- ---- the starts of rows: 0 first, and behind each row its end
 
 module _ {A : Type 0} (row : ℕ → List A) where
   pub starts-first : startsOf row 0 ≡ 0 ∷ []
@@ -207,16 +222,33 @@ module _ {A : Type 0} (row : ℕ → List A) where
   unfolding startsOf
   starts-more n = rw (add-one (n + 1)) (tabulate-more (startOf row) (n + 1) 0 (n + 1) (omega arith))
 
+-- as they stand in a list
+pub starts-laid : {A : Type 0} (row : ℕ → List A) (n : ℕ) (ss : List ℕ) {ss′ : List ℕ} (s : ℕ) → ss′ ≡ laid ss s (startsOf row n) → s + n < length ss
+    → (r : ℕ) → r ≤ n → getD ss′ (s + r) 0 ≡ startOf row r
+unfolding startsOf
+starts-laid row n ss s e l r h =
+    let k : length (tabulate (startOf row) (n + 1) 0) ≡ n + 1 = length-tabulate (startOf row) (n + 1) 0 in
+    rw (e, laid-at ss s (tabulate (startOf row) (n + 1) 0) r (omega arith) (omega arith)) (tabulate-at-0 (startOf row) (n + 1) r 0 (omega arith))
+
+-- of rows that are as long, and of rows that agree
+pub starts-agree : {A B : Type 0} (f : ℕ → List A) (g : ℕ → List B) (n : ℕ) → ((r : ℕ) → r < n + 1 → startOf f r ≡ startOf g r) → startsOf f n ≡ startsOf g n
+unfolding startsOf
+starts-agree f g n h = tabulate-agree (startOf f) (startOf g) (n + 1) 0 h
+
+pub start-agree : {A : Type 0} (f g : ℕ → List A) (n : ℕ) → ((r : ℕ) → r < n → f r ≡ g r) → (r : ℕ) → r < n + 1 → startOf f r ≡ startOf g r
+unfolding startOf
+start-agree f g n h r b = ap length (rows-agree f g r (λ q o. h q (omega arith)))
+
 -- ---- whether the numbers of a list are finite, m of n seen
 
 pub record Seen (xs : List Float) (k n m : ℕ) : Type 0 where
   pub high : m ≤ n
-  pub same : allFinite (readBy numberAt xs (k + m) (n - m)) ≡ allFinite (readBy numberAt xs k n)
+  pub same : allFinite (tabulate (numberAt xs) (n - m) (k + m)) ≡ allFinite (tabulate (numberAt xs) n k)
 
 -- the next number, and what is behind it
 seen-next : (xs : List Float) (k n m : ℕ) → m < n
-    → allFinite (readBy numberAt xs (k + m) (n - m)) ≡ (finite (numberAt xs (k + m)) && allFinite (readBy numberAt xs (k + (m + 1)) (n - (m + 1))))
-unfolding readBy allFinite
+    → allFinite (tabulate (numberAt xs) (n - m) (k + m)) ≡ (finite (numberAt xs (k + m)) && allFinite (tabulate (numberAt xs) (n - (m + 1)) (k + (m + 1))))
+unfolding tabulate allFinite
 seen-next xs k n m h =
     let e : n - m ≡ suc (n - (m + 1)) = omega arith in
     let d : k + (m + 1) ≡ suc (k + m) = omega arith in
@@ -227,14 +259,14 @@ module _ {xs : List Float} {k n : ℕ} where
   seen-start =
       let e : k + 0 ≡ k = omega arith in
       let d : n - 0 ≡ n = omega arith in
-      record { high = omega arith; same = λ i. allFinite (readBy numberAt xs (e i) (d i)) }
+      record { high = omega arith; same = λ i. allFinite (tabulate (numberAt xs) (d i) (e i)) }
 
   pub seen-turn : {m : ℕ} → Seen xs k n m → m < n → finite (numberAt xs (k + m)) ≡ true → Seen xs k n (m + 1)
   seen-turn {m} p h f = record { high = omega arith; same = sym (seen-next xs k n m h ∙ and-true _ _ f) ∙ p .same }
 
-  pub seen-stop : {m : ℕ} → Seen xs k n m → m < n → finite (numberAt xs (k + m)) ≡ false → false ≡ allFinite (readBy numberAt xs k n)
+  pub seen-stop : {m : ℕ} → Seen xs k n m → m < n → finite (numberAt xs (k + m)) ≡ false → false ≡ allFinite (tabulate (numberAt xs) n k)
   seen-stop {m} p h f = sym (seen-next xs k n m h ∙ and-false _ _ f ∙ f) ∙ p .same
 
-  pub seen-end : {m : ℕ} → Seen xs k n m → n ≤ m → true ≡ allFinite (readBy numberAt xs k n)
-  unfolding readBy allFinite
+  pub seen-end : {m : ℕ} → Seen xs k n m → n ≤ m → true ≡ allFinite (tabulate (numberAt xs) n k)
+  unfolding tabulate allFinite
   seen-end {m} p h = let e : n - m ≡ 0 = omega arith in rw e at (p .same)

@@ -5,7 +5,7 @@ use native.Mathlib.Nat.{not-suc-le-zero}
 use native.Mathlib.Omega.{arith}
 use mathlib.Core.Path.{_≡_, refl, sym, ap, _∙_}
 use mathlib.Core.Bool.{Bool, true, false, cond}
-use mathlib.Core.List.{List, [], _∷_, _++_, map}
+use mathlib.Core.List.{List, [], _∷_, map}
 use borrow.Author.Tests.{ltb-true, lt-ltb}
 use lib.Dec.{ltb}
 use lib.ListN.{length, getD, set, length-append}
@@ -19,17 +19,17 @@ use Rattle.lattice.specs.declared.grid.Position.{Position}
 use Rattle.lattice.specs.declared.levels.Three.{Three}
 use Rattle.lattice.specs.Grid.{axis3, nOf, placeOn, atOf, unknownsOf, Limits, Inside}
 use Rattle.lattice.specs.Lattice.{Medium, tabulate}
-use Rattle.lattice.specs.Terms.{Term, each, columnsOf}
+use Rattle.lattice.specs.Terms.{Term, each}
 use Rattle.lattice.proofs.GridLaws.{n-most, place-inside, at-inside, unknowns-most}
-use Rattle.lattice.proofs.TabulateLaws.{tabulate-agree}
-use Rattle.weights.specs.Lists.{rows, Laid, laidNumbers, readBy, allFinite}
+use Rattle.lattice.proofs.TabulateLaws.{length-tabulate, tabulate-at}
+use Rattle.weights.specs.Lists.{rows, Laid, laidNumbers, allFinite}
 use Rattle.weights.specs.TwoLevels.{TwoLevels, fineCells, nodeOn, fineGrid, coarseGrid, twoOf}
 use Rattle.weights.specs.Transfer.{numbersOf, startOf, startsOf, someRepeats}
-use Rattle.weights.specs.Prolongation.{isAlong, readPlace, readEdge, weightAt, weightColumns, prolongationRow, weightNumbers}
+use Rattle.weights.specs.Prolongation.{isAlong, readPlace, readEdge, weightAt, weightColumns, weightNumbers}
 use Rattle.weights.specs.Product.{
   freePlaces,
   freeTerms,
-  columnOf,
+  columnIn,
   productZ,
   productY,
   productColumns,
@@ -52,10 +52,10 @@ use Rattle.weights.specs.Tables.{
   pullEntry,
   Numbers,
   Paired,
+  entryAt,
   placesIn,
   pullsIn,
   slotOn,
-  columnIn,
   columnsInZ,
   columnsInY,
   columnsIn,
@@ -83,15 +83,12 @@ use Rattle.weights.specs.Tables.{
   pullFrom,
 }
 use Rattle.weights.specs.declared.rows.Pull.{Pull}
-use Rattle.weights.proofs.ListLaws.{rows-agree, rows-most, read-back, laid-numbers-same}
-use Rattle.weights.proofs.ProductLaws.{columns-product, terms-product, free-columns, free-most, numbers-count, count-product, weights-most}
+use Rattle.weights.proofs.ListLaws.{rows-agree, long-as, read-at, read-back, laid-numbers-same, start-agree, starts-agree}
+use Rattle.weights.proofs.EachLaws.{numbers-append, length-columns, columns-at as column-at, numbers-at as number-at}
+use Rattle.weights.proofs.RowLaws.{slot-part}
+use Rattle.weights.proofs.TwoLevelLaws.{fine-n, coarse-n}
+use Rattle.weights.proofs.ProductLaws.{columns-product, terms-product, free-columns, free-most, numbers-count, count-product, starts-few}
 use Rattle.weights.proofs.SlotLaws.{
-  fine-n,
-  coarse-n,
-  length-places,
-  places-at,
-  read-at,
-  long-as,
   slot-most,
   slot-inside,
   coarse-some,
@@ -122,11 +119,6 @@ module _ (a i : ℕ) (h : i < 64) where
   unfolding slotPlace slotOf
   slot-place true = omega arith
   slot-place false = omega arith
-
-  slot-below : (along : Bool) → a < 3 → slotOf a along i < 384
-  unfolding slotOf
-  slot-below true b = omega arith
-  slot-below false b = omega arith
 
   -- it holds what the place takes
   slot-free : (t : TwoLevels) (along : Bool) → i < fineCells t a → slotPlaces t (slotOf a along i) ≡ freePlaces t a along i
@@ -181,10 +173,10 @@ module _ (t : TwoLevels) {ns : List ℕ} (n : ns ≡ tabulate (countEntry t) 384
     -- a slot's entries are what it takes
     slot-list : (q : ℕ) → q < 384 → placesIn ps (2 * q) (getD ns q 0) ≡ slotPlaces t q
     slot-list q h =
-        let l : length (placesIn ps (2 * q) (getD ns q 0)) ≡ getD ns q 0 = length-places ps (2 * q) (getD ns q 0) in
+        let l : length (placesIn ps (2 * q) (getD ns q 0)) ≡ getD ns q 0 = length-tabulate (entryAt ps) (getD ns q 0) (2 * q) in
         ext-getD 0 (placesIn ps (2 * q) (getD ns q 0)) (slotPlaces t q)
         (l ∙ count-is q h)
-        (λ d b. places-at ps (2 * q) (getD ns q 0) d (omega arith) ∙ place-is q d h (omega (arith, count-few q h)))
+        (λ d b. tabulate-at (entryAt ps) (getD ns q 0) (2 * q) d 0 (omega arith) ∙ place-is q d h (omega (arith, count-few q h)))
 
 -- ---- the axes of a position
 
@@ -197,16 +189,11 @@ module _ (t : TwoLevels) (p : Position) (m : Limits (fineGrid t)) (f : Inside (f
   on-low a = omega (arith, place-inside f a, n-most m a)
 
   on-slot : (a : ℕ) → a < 3 → slotOn p a (placeOn p a) < 384
-  unfolding slotOn
-  on-slot a h = slot-below a (placeOn p a) (on-low a) (isAlong p a) h
+  on-slot a h = slot-part p a (placeOn p a) h (on-low a) .below
 
   on-free : (a : ℕ) → slotPlaces t (slotOn p a (placeOn p a)) ≡ freePlaces t a (isAlong p a) (placeOn p a)
   unfolding slotOn
   on-free a = slot-free a (placeOn p a) (on-low a) t (isAlong p a) (on-fine a)
-
-  on-terms : (a : ℕ) → slotTerms t (slotOn p a (placeOn p a)) ≡ freeTerms t a (isAlong p a) (placeOn p a)
-  unfolding slotOn
-  on-terms a = slot-free-terms a (placeOn p a) (on-low a) t (isAlong p a) (on-fine a)
 
   module _ {ns : List ℕ} (n : ns ≡ tabulate (countEntry t) 384 0) where
     on-count : (a : ℕ) → a < 3 → getD ns (slotOn p a (placeOn p a)) 0 ≡ length (freePlaces t a (isAlong p a) (placeOn p a))
@@ -234,8 +221,8 @@ each-both f g xs ys p q = λ k. each (λ x. p x k) (q k)
 module _ (t : TwoLevels) (p : Position) (m : Limits (fineGrid t)) (f : Inside (fineGrid t) p) {ps ns : List ℕ}
     (n : ns ≡ tabulate (countEntry t) 384 0) (s : ps ≡ tabulate (placeEntry t) 768 0) where
   columns-z : (i j : ℕ) → columnsInZ (coarseGrid t) ps ns p i j ≡ productZ t p i j
-  unfolding columnsInZ productZ columnIn columnOf placeOn axis3
-  columns-z i j = each-both (columnIn (coarseGrid t) p i j) (columnOf t p i j) _ _ (λ k. refl) (on-list t p m f n s 2 (omega arith))
+  unfolding columnsInZ productZ columnIn placeOn axis3
+  columns-z i j = each-both (columnIn (coarseGrid t) p i j) (columnIn (coarseGrid t) p i j) _ _ (λ k. refl) (on-list t p m f n s 2 (omega arith))
 
   columns-y : (i : ℕ) → columnsInY (coarseGrid t) ps ns p i ≡ productY t p i
   unfolding columnsInY productY placeOn axis3
@@ -256,29 +243,11 @@ pullAs t p a x = record { place = x .column; node = readPlace t p a (x .column);
 abbrev noTerm : Term
 noTerm = record { column = 0; number = zeroNumber }
 
--- the column and the number of a term, by its place
-column-at : (ts : List Term) (d : ℕ) → getD (columnsOf ts) d 0 ≡ getD ts d noTerm .column
-unfolding columnsOf
-column-at [] d = refl
-column-at (x ∷ ts) zero = refl
-column-at (x ∷ ts) (suc d) = column-at ts d
-
-number-at : (ts : List Term) (d : ℕ) → getD (numbersOf ts) d zeroNumber ≡ getD ts d noTerm .number
-unfolding numbersOf
-number-at [] d = refl
-number-at (x ∷ ts) zero = refl
-number-at (x ∷ ts) (suc d) = number-at ts d
-
-length-columns : (ts : List Term) → length (columnsOf ts) ≡ length ts
-unfolding columnsOf
-length-columns [] = refl
-length-columns (x ∷ ts) = ap suc (length-columns ts)
-
 -- entries that are those of some terms, one by one
 pull-list : (ps ds : List ℕ) (xs : List Float) (g : Term → Pull) (ts : List Term) (e : ℕ)
     → ((d : ℕ) → d < length ts → _≡_ {A = Pull} (record { place = getD ps (e + d) 0; node = getD ds (e + d) 0; weight = numberAt xs (e + d) }) (g (getD ts d noTerm)))
     → pullsIn ps ds xs e (length ts) ≡ map g ts
-unfolding pullsIn
+unfolding tabulate
 pull-list ps ds xs g [] e h = refl
 pull-list ps ds xs g (x ∷ ts) e h =
     let z : e + 0 ≡ e = omega arith in
@@ -286,11 +255,6 @@ pull-list ps ds xs g (x ∷ ts) e h =
     let more : pullsIn ps ds xs (suc e) (length ts) ≡ map g ts =
     pull-list ps ds xs g ts (suc e) (λ d b. let k : e + suc d ≡ suc e + d = omega arith in rw k at (h (suc d) (omega arith))) in
     λ i. one i ∷ more i
-
-numbers-append : (ts us : List Term) → numbersOf (ts ++ us) ≡ numbersOf ts ++ numbersOf us
-unfolding numbersOf
-numbers-append [] us = refl
-numbers-append (x ∷ ts) us = ap (λ (ys : List C64). x .number ∷ ys) (numbers-append ts us)
 
 -- what each entry gives, where it is what the term gives
 numbers-each : (f : Pull → List C64) (h : Term → List Term) (g : Term → Pull) → ((x : Term) → f (g x) ≡ numbersOf (h x)) → (ts : List Term)
@@ -323,15 +287,15 @@ module _ (t : TwoLevels) {ps ds ns : List ℕ} {xs : List Float} (n : ns ≡ tab
     on-pull a h d b =
         let q : ℕ = slotOf a (isAlong p a) (placeOn p a) in
         let i : placeOn p a < 64 = on-low t p m f a in
-        let k : q < 384 = slot-below a (placeOn p a) i (isAlong p a) h in
+        let k : q < 384 = on-slot t p m f a h in
         let ts : List Term = freeTerms t a (isAlong p a) (placeOn p a) in
         let free : slotPlaces t q ≡ freePlaces t a (isAlong p a) (placeOn p a) = slot-free a (placeOn p a) i t (isAlong p a) (on-fine t p m f a) in
         let terms : slotTerms t q ≡ ts = slot-free-terms a (placeOn p a) i t (isAlong p a) (on-fine t p m f a) in
-        let column : getD (slotPlaces t q) d 0 ≡ getD ts d noTerm .column = rw (free, ← free-columns t a (isAlong p a) (placeOn p a)) (column-at ts d) in
+        let column : getD (slotPlaces t q) d 0 ≡ getD ts d noTerm .column = rw (free, ← free-columns t a (isAlong p a) (placeOn p a)) (column-at ts d noTerm) in
         let place : getD ps (2 * q + d) 0 ≡ getD ts d noTerm .column = place-is t n s q d k b ∙ column in
         let node : getD ds (2 * q + d) 0 ≡ cond (isAlong p a) (placeOn p a) (nodeOn t a (getD ts d noTerm .column)) =
         rw (node-is q d k b, column, slot-axis a (placeOn p a) i (isAlong p a), slot-along a (placeOn p a) i (isAlong p a), slot-place a (placeOn p a) i (isAlong p a)) in
-        let weight : numberAt xs (2 * q + d) ≡ getD ts d noTerm .number = rw (weight-is q d k b, terms) (number-at ts d) in
+        let weight : numberAt xs (2 * q + d) ≡ getD ts d noTerm .number = rw (weight-is q d k b, terms) (number-at ts d noTerm) in
         λ j. record { place = place j; node = node j; weight = weight j }
 
     -- all of them
@@ -437,12 +401,7 @@ module _ {l : Medium} {fine coarse : Three} (p : Paired l fine coarse) {ps ns : 
 
 -- ---- rows that agree
 
--- their starts, and what they name twice
-starts-agree : {A : Type 0} (f g : ℕ → List A) (n : ℕ) → ((r : ℕ) → r < n → f r ≡ g r) → startsOf f n ≡ startsOf g n
-unfolding startsOf startOf
-starts-agree {A} f g n h =
-    tabulate-agree (startOf f) (startOf g) (n + 1) 0 (λ r b. ap (λ (xs : List A). length xs) (rows-agree f g r (λ k c. h k (omega arith))))
-
+-- what they name twice
 repeats-agree : (f g : ℕ → List ℕ) (n : ℕ) → ((r : ℕ) → r < n → f r ≡ g r) → someRepeats f n ≡ someRepeats g n
 unfolding someRepeats
 repeats-agree f g zero h = refl
@@ -509,7 +468,8 @@ module _ {l : Medium} {fine coarse : Three} {gf gc : Grid3d} {ps ns : List ℕ} 
 
   pub starts-same : startsOf (columnsRow gf gc ps ns) (unknownsOf gf) ≡ startsOf (weightColumns (twoOf l fine coarse)) (unknownsOf (fineGrid (twoOf l fine coarse)))
   starts-same =
-      starts-agree (columnsRow gf gc ps ns) (weightColumns (twoOf l fine coarse)) (unknownsOf gf) columns-row
+      starts-agree (columnsRow gf gc ps ns) (weightColumns (twoOf l fine coarse)) (unknownsOf gf)
+      (start-agree (columnsRow gf gc ps ns) (weightColumns (twoOf l fine coarse)) (unknownsOf gf) columns-row)
       ∙ ap (λ (g : Grid3d). startsOf (weightColumns (twoOf l fine coarse)) (unknownsOf g)) (s .fine-is)
 
   pub laid-rows : {xs ys : List ℕ} {k last : ℕ} → Laid set xs k (rows (columnsRow gf gc ps ns) (unknownsOf gf)) ys last
@@ -524,11 +484,6 @@ module _ {l : Medium} {fine coarse : Three} {gf gc : Grid3d} {ps ns : List ℕ} 
       ∙ ap (λ (g : Grid3d). someRepeats (weightColumns (twoOf l fine coarse)) (unknownsOf g)) (s .fine-is)
 
 -- ---- how many weights there are
-
--- no row has more than 8
-pub starts-few : (t : TwoLevels) (n : ℕ) → startOf (weightColumns t) n ≤ 8 * n
-unfolding startOf
-starts-few t n = rows-most (weightColumns t) 8 n (λ r h. weights-most t r)
 
 module _ {l : Medium} {fine coarse : Three} (p : Paired l fine coarse) {ns : List ℕ} (c : ns ≡ tabulate (countEntry (twoOf l fine coarse)) 384 0) where
   counted-to : (n : ℕ) → n ≤ unknownsOf (fineGrid (twoOf l fine coarse))
@@ -570,7 +525,7 @@ read-room : {ys zs : List Float} {vs : List C64} {k last n : ℕ} → Laid setNu
 read-room h e b c d = (omega (arith, h .next), omega (arith, h .next, laid-numbers-same h))
 
 read-same : {ys zs : List Float} {vs : List C64} {k last n : ℕ} → Laid setNumber ys k vs zs last → length vs ≡ n → 2 * (k + n) ≤ length ys
-    → allFinite (readBy numberAt zs k (last - k)) ≡ allFinite vs
+    → allFinite (tabulate (numberAt zs) (last - k) k) ≡ allFinite vs
 read-same {ys} {zs} {vs} {k} {last} {n} h e d =
     let m : last - k ≡ length vs = omega (arith, h .next) in
     rw (h .list, m, read-back ys k vs (omega arith))
@@ -631,5 +586,5 @@ module _ {l : Medium} {fine coarse : Three} {gf gc : Grid3d} {ps ns ds : List �
 
     pub weights-finite : {ys zs : List Float} {k last : ℕ} → Laid setNumber ys k (rows (numbersRow gf gc f g ps ds ns xs) (unknownsOf gf)) zs last
         → 2 * (k + startOf (weightColumns (twoOf l fine coarse)) (unknownsOf (fineGrid (twoOf l fine coarse)))) ≤ length ys
-        → allFinite (readBy numberAt zs k (last - k)) ≡ allFinite (rows (weightNumbers (twoOf l fine coarse) f g) (unknownsOf (fineGrid (twoOf l fine coarse))))
+        → allFinite (tabulate (numberAt zs) (last - k) k) ≡ allFinite (rows (weightNumbers (twoOf l fine coarse) f g) (unknownsOf (fineGrid (twoOf l fine coarse))))
     weights-finite h c = read-same (laid-weights h) (weights-long (twoOf l fine coarse) f g (unknownsOf (fineGrid (twoOf l fine coarse)))) c

@@ -30,7 +30,7 @@ use Rattle.lattice.proofs.LineLaws.{coarser-none, coarser-two}
 use Rattle.lattice.proofs.TabulateLaws.{length-tabulate}
 use Rattle.weights.specs.declared.interpolate.Rule.the-variants.{Nearest, Between, Dropped}
 use Rattle.weights.specs.Interpolate.{valueAt, valuePlaces, upTo, meets, outside, ruleBy, ruleOf, pastFirst, lowSide, highSide, sidePlaces, rulePlaces, takenPlaces}
-use Rattle.weights.specs.Product.{walled, keptPlaces, freePlaces, columnOf, productZ, productY, productColumns}
+use Rattle.weights.specs.Product.{walled, keptPlaces, freePlaces, columnIn, productZ, productY, productColumns}
 use Rattle.weights.specs.Prolongation.{axisPlaces, isAlong, edgeAt, weightColumns}
 use Rattle.weights.specs.Transfer.{contains, repeats, someRepeats}
 use Rattle.weights.specs.TwoLevels.{TwoLevels, fineCells, coarseCells, gridWith, fineGrid, coarseGrid, twoAt}
@@ -184,11 +184,11 @@ distinct-kept wall (fresh {x = m} {xs = ms} n d) = go (wall && eqb m 0) (distinc
 
 free-distinct : (t : TwoLevels) (a : ℕ) (along : Bool) (i : ℕ) → Distinct (axisPlaces t a along i) → Distinct (freePlaces t a along i)
 unfolding freePlaces
-free-distinct t a along i d = go (walled t a along && eqb i 0)
+free-distinct t a along i d = go (walled (t .base) a along && eqb i 0)
   where
-    go : (b : Bool) → Distinct (cond b [] (keptPlaces (walled t a along) (axisPlaces t a along i)))
+    go : (b : Bool) → Distinct (cond b [] (keptPlaces (walled (t .base) a along) (axisPlaces t a along i)))
     go true = empty
-    go false = distinct-kept (walled t a along) d
+    go false = distinct-kept (walled (t .base) a along) d
 
 -- ---- the product over the axes
 
@@ -216,15 +216,15 @@ module _ (t : TwoLevels) (p : Position) (limits : Limits (coarseGrid t)) (part :
 
   module _ (i j : ℕ) (a : i < coarseCells t 0) (b : j < coarseCells t 1) where
     z-distinct : Distinct (productZ t p i j)
-    unfolding productZ columnOf
+    unfolding productZ columnIn
     z-distinct =
-        each-distinct (λ c. atOf (coarseGrid t) c .k) (columnOf t p i j) zs
+        each-distinct (λ c. atOf (coarseGrid t) c .k) (columnIn (coarseGrid t) p i j) zs
         (all-map (λ k h. (distinct-one, more (ap (λ (q : Position). q .k) (at-edge i j k a b (h .low))) none)) z-free)
 
     z-all : All (λ c. (atOf (coarseGrid t) c .i ≡ i) × (atOf (coarseGrid t) c .j ≡ j)) (productZ t p i j)
-    unfolding productZ columnOf
+    unfolding productZ columnIn
     z-all =
-        all-each (columnOf t p i j)
+        all-each (columnIn (coarseGrid t) p i j)
         (λ k h. let e = at-edge i j k a b (h .low) in more (ap (λ (q : Position). q .i) e, ap (λ (q : Position). q .j) e) none)
         z-free
 

@@ -71,14 +71,7 @@ module _ (x : List C64) (t : Float) (n : ℕ) (es : List ℕ) (fine : LineOver n
       let p : Among (getD (coarserEnds x t es) m 0) es = coarser-among x t es m h in
       rw (nodes-at es (coarserEnds x t es) m h, before-among es (fine .rises) p) (p .low)
 
-  -- the last node is the last
-  pub node-last : m ≡ length (coarserEnds x t es) - 1 → getD (nodesOf es (coarserEnds x t es)) m 0 ≡ length es - 1
-  node-last e =
-      let h : m < length (coarserEnds x t es) = omega (arith, coarse .some) in
-      let q : getD (coarserEnds x t es) m 0 ≡ getD es (length es - 1) 0 = ap (λ (i : ℕ). getD (coarserEnds x t es) i 0) e ∙ (coarse .last ∙ sym (fine .last)) in
-      rw (nodes-at es (coarserEnds x t es) m h, q) (before-end es (fine .rises) (length es - 1) (omega (arith, fine .some)))
-
-  -- and the others lie before it
+  -- a node but the last lies before the last
   pub node-below : m < length (coarserEnds x t es) - 1 → getD (nodesOf es (coarserEnds x t es)) m 0 < length es - 1
   node-below h = go (decLt k (length es - 1))
     where
@@ -176,15 +169,6 @@ module _ (l : Medium) (limits : Limits (l .grid)) where
     ended-at m =
         both-lines l L a (λ es cs. m ≤ length cs - 1 → getD (nodesOf es cs) m 0 ≤ length es - 1)
         (λ b. node-most (acrossMap l b) (target L) (nOf (l .grid) b) (lineAt l b L) (line-over l limits b L) (line-over l limits b (suc L)) m)
-
-    -- both lie at the same place
-    pub same-end : (m : ℕ) → m ≤ coarseCells (twoAt l L) a → getD (fineLine (twoAt l L) a) (nodeOn (twoAt l L) a m) 0 ≡ getD (coarseLine (twoAt l L) a) m 0
-    unfolding nodeOn coarseCells lineAt
-    same-end m =
-        both-lines l L a (λ es cs. m ≤ length cs - 1 → getD es (getD (nodesOf es cs) m 0) 0 ≡ getD cs m 0)
-        (λ b h.
-        node-end (acrossMap l b) (target L) (nOf (l .grid) b) (lineAt l b L) (line-over l limits b L) (line-over l limits b (suc L)) m
-        (let o = line-over l limits b (suc L) in omega (arith, o .some)))
 
   level-held : (L : ℕ) → HeldThree (threeAt l L)
   level-held L = let h = three-held l limits L in record { x-held = h .0; y-held = h .1; z-held = h .2 }

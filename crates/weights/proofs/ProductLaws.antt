@@ -23,7 +23,7 @@ use Rattle.lattice.specs.Lattice.{edgesOf, isWall}
 use Rattle.lattice.specs.Line.{placeOf}
 use Rattle.lattice.specs.Neighbours.{onWall, fixedAt, pastHigh}
 use Rattle.lattice.specs.Stretched.{acrossMap, alongMap}
-use Rattle.lattice.specs.Terms.{Term, columnsOf, each}
+use Rattle.lattice.specs.Terms.{Term, columnsOf}
 use Rattle.lattice.proofs.LineLaws.{before-most}
 use Rattle.lattice.proofs.TabulateLaws.{length-tabulate}
 use Rattle.weights.specs.declared.interpolate.Rule.{Rule}
@@ -55,9 +55,9 @@ use Rattle.weights.specs.Prolongation.{
   isAlong,
   edgeAt,
   columnAt,
-  columnsZ,
-  columnsY,
-  columnsX,
+  nestZ,
+  nestY,
+  nest,
   weightColumns,
   termAt,
   termsZ,
@@ -66,14 +66,16 @@ use Rattle.weights.specs.Prolongation.{
   prolongationRow,
   weightNumbers,
 }
-use Rattle.weights.proofs.EachLaws.{sieved, Sifted, product-sieved, columns-append, columns-each, numbers-many, each-count, All, none, more, all-append, all-at}
+use Rattle.weights.specs.Transfer.{startOf}
+use Rattle.weights.proofs.EachLaws.{sieved, Sifted, product-sieved, columns-append, columns-each, length-columns, length-numbers, each-count, All, none, more, all-append, all-at}
+use Rattle.weights.proofs.ListLaws.{rows-most}
 use Rattle.weights.specs.Product.{
   walled,
   keptPlaces,
   keptTerms,
   freePlaces,
   freeTerms,
-  columnOf,
+  columnIn,
   productZ,
   productY,
   productColumns,
@@ -105,7 +107,7 @@ barred-by false false m = go (eqb m 0)
 
 -- whether a position of either level is fixed on axis a
 abbrev pub barredOn : TwoLevels → Position → ℕ → ℕ → Bool
-barredOn t p a m = barred (walled t a (isAlong p a)) m
+barredOn t p a m = barred (walled (t .base) a (isAlong p a)) m
 
 pub fixed-parts : (t : TwoLevels) (g : Grid3d) (p : Position)
     → fixedAt (onGrid (t .base) g) p ≡ barredOn t p 0 (p .i) || (barredOn t p 1 (p .j) || barredOn t p 2 (p .k))
@@ -130,13 +132,13 @@ sieved-terms w [] = refl
 sieved-terms w (t ∷ ts) = rw (sieved-terms w ts)
 
 module _ (t : TwoLevels) (a : ℕ) (along : Bool) (i : ℕ) where
-  free-places : Sifted (barred (walled t a along)) (barred (walled t a along) i) (axisPlaces t a along i) (freePlaces t a along i)
+  free-places : Sifted (barred (walled (t .base) a along)) (barred (walled (t .base) a along) i) (axisPlaces t a along i) (freePlaces t a along i)
   unfolding freePlaces
-  free-places = record { is = rw (sieved-places (walled t a along) (axisPlaces t a along i)) }
+  free-places = record { is = rw (sieved-places (walled (t .base) a along) (axisPlaces t a along i)) }
 
-  free-terms : Sifted (barredTerm (walled t a along)) (barred (walled t a along) i) (axisTerms t a along i) (freeTerms t a along i)
+  free-terms : Sifted (barredTerm (walled (t .base) a along)) (barred (walled (t .base) a along) i) (axisTerms t a along i) (freeTerms t a along i)
   unfolding freeTerms
-  free-terms = record { is = rw (sieved-terms (walled t a along) (axisTerms t a along i)) }
+  free-terms = record { is = rw (sieved-terms (walled (t .base) a along) (axisTerms t a along i)) }
 
 fixed-fine : (t : TwoLevels) (p : Position) → fixedAt (fineLattice t) p ≡ barredOn t p 0 (p .i) || (barredOn t p 1 (p .j) || barredOn t p 2 (p .k))
 unfolding fineLattice
@@ -148,16 +150,16 @@ unfolding coarseLattice edgeAt isAlong
 fixed-coarse t p i j k = fixed-parts t (coarseGrid t) (edgeAt p i j k)
 
 tested-column : (t : TwoLevels) (p : Position) (i j k : ℕ)
-    → columnAt t p i j k ≡ cond (barredOn t p 0 i || (barredOn t p 1 j || barredOn t p 2 k)) [] (columnOf t p i j k)
-unfolding columnAt columnOf
+    → columnAt t p i j k ≡ cond (barredOn t p 0 i || (barredOn t p 1 j || barredOn t p 2 k)) [] (columnIn (coarseGrid t) p i j k)
+unfolding columnAt columnIn
 tested-column t p i j k = rw (fixed-coarse t p i j k)
 
 -- the columns of a row are the products of the free places
 pub columns-product : (t : TwoLevels) (r : ℕ) → weightColumns t r ≡ productColumns t (atOf (fineGrid t) r)
-unfolding weightColumns columnsX columnsY columnsZ productColumns productY productZ
+unfolding weightColumns nest nestY nestZ columnIn productColumns productY productZ
 columns-product t r =
     let p = atOf (fineGrid t) r in
-    product-sieved (barredOn t p 0) (barredOn t p 1) (barredOn t p 2) (columnAt t p) (columnOf t p) (tested-column t p)
+    product-sieved (barredOn t p 0) (barredOn t p 1) (barredOn t p 2) (columnAt t p) (columnIn (coarseGrid t) p) (tested-column t p)
     (fixed-fine t p) (free-places t 0 (isAlong p 0) (p .i)) (free-places t 1 (isAlong p 1) (p .j)) (free-places t 2 (isAlong p 2) (p .k))
 
 -- the same of its terms
@@ -226,16 +228,16 @@ module _ (t : TwoLevels) (a : ℕ) (along : Bool) (i : ℕ) where
 
   pub free-columns : columnsOf (freeTerms t a along i) ≡ freePlaces t a along i
   unfolding freeTerms freePlaces columnsOf
-  free-columns = go (barred (walled t a along) i)
+  free-columns = go (barred (walled (t .base) a along) i)
     where
-      go : (b : Bool) → columnsOf (cond b [] (keptTerms (walled t a along) (axisTerms t a along i)))
-          ≡ cond b [] (keptPlaces (walled t a along) (axisPlaces t a along i))
+      go : (b : Bool) → columnsOf (cond b [] (keptTerms (walled (t .base) a along) (axisTerms t a along i)))
+          ≡ cond b [] (keptPlaces (walled (t .base) a along) (axisPlaces t a along i))
       go true = refl
-      go false = columns-kept (walled t a along) (axisTerms t a along i) ∙ ap (keptPlaces (walled t a along)) axis-columns
+      go false = columns-kept (walled (t .base) a along) (axisTerms t a along i) ∙ ap (keptPlaces (walled (t .base) a along)) axis-columns
 
 module _ (t : TwoLevels) (f g : ℕ → C64) where
-  column-of : (p : Position) (x y z : Term) → columnsOf (freeTerm t f g p x y z) ≡ columnOf t p (x .column) (y .column) (z .column)
-  unfolding columnsOf termOf columnOf
+  column-of : (p : Position) (x y z : Term) → columnsOf (freeTerm t f g p x y z) ≡ columnIn (coarseGrid t) p (x .column) (y .column) (z .column)
+  unfolding columnsOf termOf columnIn
   column-of p x y z = refl
 
   -- each column of the products has one term
@@ -244,7 +246,7 @@ module _ (t : TwoLevels) (f g : ℕ → C64) where
   product-columns p =
       columns-each (productTermsY t f g p) (productY t p)
       (λ x. columns-each (productTermsZ t f g p x) (productZ t p (x .column))
-      (λ y. columns-each (freeTerm t f g p x y) (columnOf t p (x .column) (y .column)) (column-of p x y) (freeTerms t 2 (isAlong p 2) (p .k))
+      (λ y. columns-each (freeTerm t f g p x y) (columnIn (coarseGrid t) p (x .column) (y .column)) (column-of p x y) (freeTerms t 2 (isAlong p 2) (p .k))
       (free-columns t 2 (isAlong p 2) (p .k)))
       (freeTerms t 1 (isAlong p 1) (p .j)) (free-columns t 1 (isAlong p 1) (p .j)))
       (freeTerms t 0 (isAlong p 0) (p .i)) (free-columns t 0 (isAlong p 0) (p .i))
@@ -254,7 +256,7 @@ module _ (t : TwoLevels) (f g : ℕ → C64) where
 
   pub numbers-count : (r : ℕ) → length (weightNumbers t f g r) ≡ length (weightColumns t r)
   unfolding weightNumbers
-  numbers-count r = numbers-many (prolongationRow t f g r) ∙ ap length (terms-columns r)
+  numbers-count r = length-numbers (prolongationRow t f g r) ∙ sym (length-columns (prolongationRow t f g r)) ∙ ap length (terms-columns r)
 
 -- ---- how many columns
 
@@ -287,20 +289,20 @@ kept-most w (m ∷ ms) = go (barred w m) (kept-most w ms)
 
 pub free-most : (t : TwoLevels) (a : ℕ) (along : Bool) (i : ℕ) → length (freePlaces t a along i) ≤ 2
 unfolding freePlaces axisPlaces
-free-most t a along i = go (barred (walled t a along) i)
+free-most t a along i = go (barred (walled (t .base) a along) i)
   where
-    go : (b : Bool) → length (cond b [] (keptPlaces (walled t a along) (axisPlaces t a along i))) ≤ 2
+    go : (b : Bool) → length (cond b [] (keptPlaces (walled (t .base) a along) (axisPlaces t a along i))) ≤ 2
     go true = omega arith
     go false =
         omega (
           arith,
-          kept-most (walled t a along) (axisPlaces t a along i),
+          kept-most (walled (t .base) a along) (axisPlaces t a along i),
           taken-most (edgesOf (t .base) a) (valuePlaces (coarseLine t a) along) along (placeOf (fineLine t a) i along),
         )
 
 -- a row has as many columns as the product says
 pub count-product : (t : TwoLevels) (r : ℕ) → length (weightColumns t r) ≡ weightCount t (atOf (fineGrid t) r)
-unfolding weightCount productColumns productY productZ columnOf
+unfolding weightCount productColumns productY productZ columnIn
 count-product t r =
     let p = atOf (fineGrid t) r in
     let x = length (freePlaces t 0 (isAlong p 0) (p .i)) in
@@ -309,7 +311,7 @@ count-product t r =
     let e : length (weightColumns t r) ≡ x * (y * (z * 1)) =
     ap length (columns-product t r)
     ∙ each-count (productY t p) (y * (z * 1))
-    (λ i. each-count (productZ t p i) (z * 1) (λ j. each-count (columnOf t p i j) 1 (λ k. refl) (freePlaces t 2 (isAlong p 2) (p .k)))
+    (λ i. each-count (productZ t p i) (z * 1) (λ j. each-count (columnIn (coarseGrid t) p i j) 1 (λ k. refl) (freePlaces t 2 (isAlong p 2) (p .k)))
     (freePlaces t 1 (isAlong p 1) (p .j)))
     (freePlaces t 0 (isAlong p 0) (p .i)) in
     let one : z * 1 ≡ z = omega arith in
@@ -322,6 +324,10 @@ weights-most t r =
     let u : weightCount t p ≤ 2 * 2 * 2 =
     mul-le-mul (mul-le-mul (free-most t 0 (isAlong p 0) (p .i)) (free-most t 1 (isAlong p 1) (p .j))) (free-most t 2 (isAlong p 2) (p .k)) in
     omega (arith, count-product t r, u)
+
+pub starts-few : (t : TwoLevels) (n : ℕ) → startOf (weightColumns t) n ≤ 8 * n
+unfolding startOf
+starts-few t n = rows-most (weightColumns t) 8 n (λ r h. weights-most t r)
 
 -- ---- where the places lie
 
@@ -361,16 +367,16 @@ taken-inside e cs along p s = rule-inside e (isWall e) along (length cs) (upTo c
 -- a place of the coarse line of axis a that is not fixed
 pub record FreePlace (t : TwoLevels) (a : ℕ) (along : Bool) (m : ℕ) : Type 0 where
   pub low : m < coarseCells t a
-  pub free : barred (walled t a along) m ≡ false
+  pub free : barred (walled (t .base) a along) m ≡ false
 
 module _ (t : TwoLevels) (a : ℕ) (along : Bool) where
-  kept-inside : {ms : List ℕ} → All (λ m. m < coarseCells t a) ms → All (FreePlace t a along) (keptPlaces (walled t a along) ms)
+  kept-inside : {ms : List ℕ} → All (λ m. m < coarseCells t a) ms → All (FreePlace t a along) (keptPlaces (walled (t .base) a along) ms)
   unfolding keptPlaces
   kept-inside none = none
-  kept-inside (more {x = m} {xs = ms} p u) = go (barred (walled t a along) m) refl (kept-inside u)
+  kept-inside (more {x = m} {xs = ms} p u) = go (barred (walled (t .base) a along) m) refl (kept-inside u)
     where
-      go : (b : Bool) → barred (walled t a along) m ≡ b → All (FreePlace t a along) (keptPlaces (walled t a along) ms)
-          → All (FreePlace t a along) (cond b (keptPlaces (walled t a along) ms) (m ∷ keptPlaces (walled t a along) ms))
+      go : (b : Bool) → barred (walled (t .base) a along) m ≡ b → All (FreePlace t a along) (keptPlaces (walled (t .base) a along) ms)
+          → All (FreePlace t a along) (cond b (keptPlaces (walled (t .base) a along) ms) (m ∷ keptPlaces (walled (t .base) a along) ms))
       go true e v = v
       go false e v = more (record { low = p; free = e }) v
 
@@ -384,9 +390,9 @@ module _ (t : TwoLevels) (a : ℕ) (along : Bool) where
   -- what a place takes of an axis are places there that are not fixed
   pub free-all : (i : ℕ) → 1 ≤ coarseCells t a → All (FreePlace t a along) (freePlaces t a along i)
   unfolding freePlaces
-  free-all i s = go (barred (walled t a along) i)
+  free-all i s = go (barred (walled (t .base) a along) i)
     where
-      go : (b : Bool) → All (FreePlace t a along) (cond b [] (keptPlaces (walled t a along) (axisPlaces t a along i)))
+      go : (b : Bool) → All (FreePlace t a along) (cond b [] (keptPlaces (walled (t .base) a along) (axisPlaces t a along i)))
       go true = none
       go false = kept-inside (axis-inside i s)
 

@@ -1,12 +1,12 @@
 -- Laws of the search for a column that a row names twice, and of counting the rows' weights.
 -- Assumes nothing.
 use Prim.Native.Nat.{ℕ, zero, suc, _+_, _-_, _*_, _<_, _≤_}
-use native.Mathlib.Nat.{mul-le-mul, mul-le-mul-left}
+use native.Mathlib.Nat.{mul-le-mul}
 use native.Mathlib.Decide.{decLt}
 use native.Mathlib.Numerals.{add-one}
 use native.Mathlib.Omega.{arith}
 use mathlib.Core.Path.{_≡_, refl, sym, ap, _∙_}
-use mathlib.Core.Bool.{Bool, true, false, cond}
+use mathlib.Core.Bool.{Bool, true, false}
 use mathlib.Core.List.{List, [], _∷_}
 use borrow.Author.Tests.{eq-eqb, ne-eqb}
 use lib.ListN.{length, getD, set, length-set}
@@ -14,19 +14,14 @@ use lib.Seq.{getD-set-same}
 use Rattle.lattice.specs.declared.grid.Grid3d.{Grid3d}
 use Rattle.lattice.specs.declared.grid.Position.{Position}
 use Rattle.lattice.specs.Grid.{atOf, Limits, Inside}
-use Rattle.lattice.specs.Terms.{each}
-use Rattle.lattice.proofs.TermLaws.{each-most}
+use Rattle.lattice.specs.Lattice.{tabulate}
 use Rattle.weights.specs.Lists.{laidBy, laid, Laid}
 use Rattle.weights.proofs.ListLaws.{laid-before, laid-same}
+use Rattle.weights.proofs.RowLaws.{slot-part, columns-most}
 use Rattle.weights.specs.Transfer.{contains, repeats, someRepeats}
-use Rattle.weights.specs.Prolongation.{isAlong}
 use Rattle.weights.specs.Tables.{
-  slotOf,
   slotOn,
   placesIn,
-  columnIn,
-  columnsInZ,
-  columnsInY,
   columnsIn,
   columnsRow,
   PlacesOf,
@@ -42,14 +37,14 @@ pub record Seeking (cs : List ℕ) (m n c q : ℕ) : Type 0 where
 
 -- the places from m on, where there is one
 places-next : (cs : List ℕ) (m n : ℕ) → m < n → placesIn cs m (n - m) ≡ getD cs m 0 ∷ placesIn cs (m + 1) (n - (m + 1))
-unfolding placesIn
+unfolding tabulate
 places-next cs m n h =
     let e : n - m ≡ suc (n - (m + 1)) = omega arith in
     rw (e, add-one m)
 
 -- and where there is none
 places-none : (cs : List ℕ) (m n : ℕ) → n ≤ m → placesIn cs m (n - m) ≡ []
-unfolding placesIn
+unfolding tabulate
 places-none cs m n h = let e : n - m ≡ 0 = omega arith in rw e
 
 pub seeking-start : {cs : List ℕ} {m n c : ℕ} → Seeking cs m n c m
@@ -107,55 +102,13 @@ module _ {cs : List ℕ} {n m : ℕ} (p : Comparing cs n m) where
 -- ---- a row's columns, laid into a list with room, are read back
 
 places-laid : (xs : List ℕ) (k : ℕ) (vs : List ℕ) → k + length vs ≤ length xs → placesIn (laid xs k vs) k (length vs) ≡ vs
-unfolding laidBy placesIn
+unfolding laidBy tabulate
 places-laid xs k [] h = refl
 places-laid xs k (v ∷ vs) h =
     let ys = set xs k v in
     let a : getD (laid ys (suc k) vs) k 0 ≡ v = laid-before ys (suc k) vs k (omega arith) ∙ getD-set-same xs k v 0 (omega arith) in
     let b : placesIn (laid ys (suc k) vs) (suc k) (length vs) ≡ vs = places-laid ys (suc k) vs (omega (arith, length-set xs k v)) in
     λ i. a i ∷ b i
-
-length-places : (ps : List ℕ) (e n : ℕ) → length (placesIn ps e n) ≡ n
-unfolding placesIn
-length-places ps e zero = refl
-length-places ps e (suc n) = ap suc (length-places ps (suc e) n)
-
-slot-low : (p : Position) (a i : ℕ) → a < 3 → i < 64 → slotOn p a i < 384
-unfolding slotOn slotOf
-slot-low p a i h b = go (isAlong p a)
-  where
-    go : (s : Bool) → 128 * a + cond s 64 0 + i < 384
-    go true = omega arith
-    go false = omega arith
-
--- a slot's entries are at most two, so what each gives at most b of comes to at most b + b
-two-most : {A : Type 0} (f : ℕ → List A) (b n : ℕ) → ((m : ℕ) → length (f m) ≤ b) → n ≤ 2 → (ps : List ℕ) (e : ℕ) → length (each f (placesIn ps e n)) ≤ b * 2
-two-most f b n h k ps e =
-    let l : length (placesIn ps e n) ≡ n = length-places ps e n in
-    let j : length (each f (placesIn ps e n)) ≤ b * length (placesIn ps e n) = each-most f b h (placesIn ps e n) in
-    let i : b * length (placesIn ps e n) ≤ b * 2 = mul-le-mul-left b (omega arith) in
-    omega arith
-
--- so a row has at most eight
-pub columns-few : {g : Grid3d} {ps ns : List ℕ} (p : Position) → PlacesOf g ps ns → p .i < 64 → p .j < 64 → p .k < 64
-    → length (columnsIn g ps ns p) ≤ 8
-unfolding columnsIn columnsInY columnsInZ columnIn
-columns-few {g} {ps} {ns} p h x y z =
-    two-most (columnsInY g ps ns p) 4 (getD ns (slotOn p 0 (p .i)) 0)
-    (λ i.
-    two-most (columnsInZ g ps ns p i) 2 (getD ns (slotOn p 1 (p .j)) 0)
-    (λ j.
-    two-most (columnIn g p i j) 1 (getD ns (slotOn p 2 (p .k)) 0)
-    (λ k. omega arith)
-    (h .few (slotOn p 2 (p .k)) (slot-low p 2 (p .k) (omega arith) z))
-    ps
-    (2 * slotOn p 2 (p .k)))
-    (h .few (slotOn p 1 (p .j)) (slot-low p 1 (p .j) (omega arith) y))
-    ps
-    (2 * slotOn p 1 (p .j)))
-    (h .few (slotOn p 0 (p .i)) (slot-low p 0 (p .i) (omega arith) x))
-    ps
-    (2 * slotOn p 0 (p .i))
 
 -- a position of a grid within the limits has places below 64
 pub place-small : {g : Grid3d} {p : Position} → Limits g → Inside g p → (p .i < 64) × (p .j < 64) × (p .k < 64)
@@ -165,7 +118,7 @@ place-small l h = (omega (arith, l .x-most, h .i-in), omega (arith, l .y-most, h
 module _ {gf gc : Grid3d} {ps ns : List ℕ} {p : Position} {xs ys : List ℕ} {n : ℕ} (l : Limits gf) (i : Inside gf p) (h : PlacesOf gc ps ns)
     (w : Laid set xs 0 (columnsIn gc ps ns p) ys n) (e : length xs ≡ 8) where
   row-few : length (columnsIn gc ps ns p) ≤ 8
-  row-few = let s = place-small l i in columns-few p h (s .0) (s .1) (s .2)
+  row-few = let s = place-small l i in columns-most h p (s .0) (s .1) (s .2)
 
   pub row-room : n ≤ length ys
   row-room = omega (arith, row-few, w .next, laid-same w)
@@ -224,9 +177,9 @@ pub count-few : {g : Grid3d} {ns : List ℕ} {p : Position} → Limits g → Ins
 unfolding countIn
 count-few {g} {ns} {p} l h c =
     let s = place-small l h in
-    let x : getD ns (slotOn p 0 (p .i)) 0 ≤ 2 = c .few (slotOn p 0 (p .i)) (slot-low p 0 (p .i) (omega arith) (s .0)) in
-    let y : getD ns (slotOn p 1 (p .j)) 0 ≤ 2 = c .few (slotOn p 1 (p .j)) (slot-low p 1 (p .j) (omega arith) (s .1)) in
-    let z : getD ns (slotOn p 2 (p .k)) 0 ≤ 2 = c .few (slotOn p 2 (p .k)) (slot-low p 2 (p .k) (omega arith) (s .2)) in
+    let x : getD ns (slotOn p 0 (p .i)) 0 ≤ 2 = c .few (slotOn p 0 (p .i)) (slot-part p 0 (p .i) (omega arith) (s .0) .below) in
+    let y : getD ns (slotOn p 1 (p .j)) 0 ≤ 2 = c .few (slotOn p 1 (p .j)) (slot-part p 1 (p .j) (omega arith) (s .1) .below) in
+    let z : getD ns (slotOn p 2 (p .k)) 0 ≤ 2 = c .few (slotOn p 2 (p .k)) (slot-part p 2 (p .k) (omega arith) (s .2) .below) in
     mul-le-mul (mul-le-mul x y) z
 
 pub counting-start : {g : Grid3d} {ns : List ℕ} {n : ℕ} → Counting g ns n 0 0

@@ -14,7 +14,9 @@ use Rattle.numbers.specs.Places.{numberAt, setNumber}
 use Rattle.lattice.specs.declared.grid.Grid3d.{Grid3d}
 use Rattle.lattice.specs.declared.grid.Position.{Position}
 use Rattle.lattice.specs.Grid.{nOf, atOf, unknownsOf, Limits, Inside}
+use Rattle.lattice.specs.Lattice.{tabulate}
 use Rattle.lattice.specs.Terms.{each}
+use Rattle.lattice.proofs.TabulateLaws.{length-tabulate}
 use Rattle.lattice.proofs.GridLaws.{at-inside}
 use Rattle.lattice.proofs.TermLaws.{each-append, each-one, each-most}
 use Rattle.weights.specs.declared.rows.Pull.{Pull}
@@ -22,9 +24,10 @@ use Rattle.weights.specs.declared.rows.Span.{Span}
 use Rattle.weights.specs.Lists.{rows, laidBy, Laid}
 use Rattle.weights.specs.Transfer.{startOf, startsOf}
 use Rattle.weights.specs.Prolongation.{isAlong}
-use Rattle.weights.specs.Tables.{slotOf, slotOn, placesIn, pullsIn, PlacesOf, NodesOf, SpanOf}
-use Rattle.weights.specs.Tables.{columnIn, columnsInZ, columnsInY, columnsIn, numberIn, numbersInZ, numbersInY, numbersIn}
-use Rattle.weights.proofs.ListLaws.{laid-append, laid-same, laid-numbers-same, Laying, laying-start, laying-turn, laying-end, starts-first, starts-more}
+use Rattle.weights.specs.Product.{columnIn}
+use Rattle.weights.specs.Tables.{slotOf, slotOn, entryAt, placesIn, pullIn, pullsIn, PlacesOf, NodesOf, SpanOf}
+use Rattle.weights.specs.Tables.{columnsInZ, columnsInY, columnsIn, numberIn, numbersInZ, numbersInY, numbersIn}
+use Rattle.weights.proofs.ListLaws.{through, laid-append, laid-same, laid-numbers-same, Laying, laying-start, laying-turn, laying-end, tabulate-more, starts-first, starts-more}
 
 -- ---- the slot of a position on an axis
 
@@ -32,7 +35,7 @@ pub record SlotOf (q a : ℕ) : Type 0 where
   pub below : q < 384
   pub axis-is : q / 128 ≡ a
 
-slot-part : (p : Position) (a i : ℕ) → a < 3 → i < 64 → SlotOf (slotOn p a i) a
+pub slot-part : (p : Position) (a i : ℕ) → a < 3 → i < 64 → SlotOf (slotOn p a i) a
 unfolding slotOn slotOf
 slot-part p a i h l = go (isAlong p a)
   where
@@ -68,10 +71,6 @@ three-few h l m = mul-le-mul (two-few h l) m
 
 -- ---- the entries of a slot as rows
 
--- what f gives for element m
-abbrev pub through : {E A : Type 0} → (E → List A) → (ℕ → E) → ℕ → List A
-through f el m = f (el m)
-
 unfoldable pub placeAt : List ℕ → ℕ → ℕ → ℕ
 placeAt ps e m = getD ps (e + m) 0
 
@@ -86,35 +85,14 @@ each-rows f list el z s zero = ap (each f) z
 each-rows f list el z s (suc n) =
     ap (each f) (s n) ∙ each-append f (list n) (el n ∷ []) ∙ (λ i. each-rows f list el z s n i ++ each-one f (el n) i)
 
-places-more : (ps : List ℕ) (e n j : ℕ) → j ≡ e + n → placesIn ps e (suc n) ≡ placesIn ps e n ++ (getD ps j 0 ∷ [])
-unfolding placesIn
-places-more ps e zero j h = let d : e ≡ j = omega arith in rw d
-places-more ps e (suc n) j h = rw (places-more ps (suc e) n j (omega arith))
-
-pulls-more : (ps ds : List ℕ) (xs : List Float) (e n j : ℕ) → j ≡ e + n
-    → pullsIn ps ds xs e (suc n) ≡ pullsIn ps ds xs e n ++ (record { place = getD ps j 0; node = getD ds j 0; weight = numberAt xs j } ∷ [])
-unfolding pullsIn
-pulls-more ps ds xs e zero j h = let d : e ≡ j = omega arith in rw d
-pulls-more ps ds xs e (suc n) j h = rw (pulls-more ps ds xs (suc e) n j (omega arith))
-
 each-places : {A : Type 0} (f : ℕ → List A) (ps : List ℕ) (e n : ℕ) → each f (placesIn ps e n) ≡ rows (through f (placeAt ps e)) n
-unfolding placesIn placeAt
-each-places f ps e n = each-rows f (placesIn ps e) (placeAt ps e) refl (λ m. places-more ps e m (e + m) refl) n
+unfolding tabulate placeAt
+each-places f ps e n = each-rows f (placesIn ps e) (placeAt ps e) refl (λ m. tabulate-more (entryAt ps) m e (e + m) refl) n
 
 each-pulls : {A : Type 0} (f : Pull → List A) (ps ds : List ℕ) (xs : List Float) (e n : ℕ)
     → each f (pullsIn ps ds xs e n) ≡ rows (through f (pullAt ps ds xs e)) n
-unfolding pullsIn pullAt
-each-pulls f ps ds xs e n = each-rows f (pullsIn ps ds xs e) (pullAt ps ds xs e) refl (λ m. pulls-more ps ds xs e m (e + m) refl) n
-
-length-places : (ps : List ℕ) (e n : ℕ) → length (placesIn ps e n) ≡ n
-unfolding placesIn
-length-places ps e zero = refl
-length-places ps e (suc n) = ap suc (length-places ps (suc e) n)
-
-length-pulls : (ps ds : List ℕ) (xs : List Float) (e n : ℕ) → length (pullsIn ps ds xs e n) ≡ n
-unfolding pullsIn
-length-pulls ps ds xs e zero = refl
-length-pulls ps ds xs e (suc n) = ap suc (length-pulls ps ds xs (suc e) n)
+unfolding tabulate pullAt
+each-pulls f ps ds xs e n = each-rows f (pullsIn ps ds xs e) (pullAt ps ds xs e) refl (λ m. tabulate-more (pullIn ps ds xs) m e (e + m) refl) n
 
 -- ---- how long the lists of a row are
 
@@ -129,7 +107,7 @@ module _ {g : Grid3d} {ps ns : List ℕ} (u : PlacesOf g ps ns) (p : Position) w
   places-few f b a i h l m =
       let q = slotOn p a i in
       let t : length (placesIn ps (2 * q) (getD ns q 0)) ≤ 2 =
-      omega (arith, length-places ps (2 * q) (getD ns q 0), u .few q (slot-part p a i h l .below)) in
+      omega (arith, length-tabulate (entryAt ps) (getD ns q 0) (2 * q), u .few q (slot-part p a i h l .below)) in
       each-few f b (placesIn ps (2 * q) (getD ns q 0)) m t
 
   pub columns-z-most : p .k < 64 → (i j : ℕ) → length (columnsInZ g ps ns p i j) ≤ 2
@@ -151,7 +129,7 @@ module _ {g : Grid3d} {ps ns : List ℕ} (u : PlacesOf g ps ns) (p : Position) w
     pulls-few r b a i h l m =
         let q = slotOn p a i in
         let t : length (pullsIn ps ds xs (2 * q) (getD ns q 0)) ≤ 2 =
-        omega (arith, length-pulls ps ds xs (2 * q) (getD ns q 0), u .few q (slot-part p a i h l .below)) in
+        omega (arith, length-tabulate (pullIn ps ds xs) (getD ns q 0) (2 * q), u .few q (slot-part p a i h l .below)) in
         each-few r b (pullsIn ps ds xs (2 * q) (getD ns q 0)) m t
 
     pub numbers-z-most : p .k < 64 → (x y : Pull) → length (numbersInZ gf g f e ps ds ns xs p x y) ≤ 2

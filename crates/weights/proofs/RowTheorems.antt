@@ -16,15 +16,14 @@ use Rattle.lattice.proofs.GridLaws.{index-below, at-index}
 use Rattle.weights.specs.TwoLevels.{TwoLevels, gridWith, fineGrid, coarseGrid, fineLattice, coarseLattice, onGrid}
 use Rattle.weights.specs.Interpolate.{whole}
 use Rattle.weights.specs.Prolongation.{
-  axisPlaces,
   axisTerms,
   isAlong,
   edgeAt,
   readEdge,
   columnAt,
-  columnsZ,
-  columnsY,
-  columnsX,
+  nestZ,
+  nestY,
+  nest,
   weightColumns,
   weightAt,
   termAt,
@@ -32,12 +31,10 @@ use Rattle.weights.specs.Prolongation.{
   termsY,
   termsX,
   prolongationRow,
-  readsZ,
-  readsY,
-  readsX,
+  readAt,
   weightReads,
 }
-use Rattle.weights.specs.Product.{columnOf, productZ, productY, productColumns}
+use Rattle.weights.specs.Product.{columnIn, productZ, productY, productColumns}
 use Rattle.weights.specs.CoarseEps.{epsReads, inverted, harmonic, coarseEps}
 use Rattle.weights.proofs.EachLaws.{All, none, more, all-each, all-at}
 use Rattle.weights.proofs.ProductLaws.{FreePlace, free-all, fixed-coarse, columns-product, axis-columns}
@@ -60,11 +57,11 @@ module _ (t : TwoLevels) (h : Limits (coarseGrid t)) (p : Position) (b : p .comp
       }
 
   product-free : All (FreeEdge t) (productColumns t p)
-  unfolding productColumns productY productZ columnOf coarseGrid gridWith
+  unfolding productColumns productY productZ columnIn coarseGrid gridWith
   product-free =
       all-each (productY t p)
       (λ i x. all-each (productZ t p i)
-      (λ j y. all-each (columnOf t p i j) (λ k z. more (free-edge i j k x y z) none) (free-all t 2 (isAlong p 2) (p .k) (h .z-some)))
+      (λ j y. all-each (columnIn (coarseGrid t) p i j) (λ k z. more (free-edge i j k x y z) none) (free-all t 2 (isAlong p 2) (p .k) (h .z-some)))
       (free-all t 1 (isAlong p 1) (p .j) (h .y-some)))
       (free-all t 0 (isAlong p 0) (p .i) (h .x-some))
 
@@ -100,9 +97,9 @@ module _ (f f′ g g′ : ℕ → C64) where
   terms-local u v r s local ts e a b = each-local u v r s local ts (rw e a) (rw e b)
 
   module _ (t : TwoLevels) (p : Position) where
-    term-local : (i j : ℕ) (w : C64) (z : Term) → Agree f f′ (readsZ t p i j (z .column)) → Agree g g′ (columnAt t p i j (z .column))
+    term-local : (i j : ℕ) (w : C64) (z : Term) → Agree f f′ (readAt t p i j (z .column)) → Agree g g′ (columnAt t p i j (z .column))
         → termAt t f g p i j w z ≡ termAt t f′ g′ p i j w z
-    unfolding readsZ columnAt termAt weightAt
+    unfolding readAt columnAt termAt weightAt
     term-local i j w z =
         go (fixedAt (coarseLattice t) (edgeAt p i j (z .column))) (indexOf (coarseGrid t) (edgeAt p i j (z .column))) (readEdge t p i j (z .column))
       where
@@ -112,25 +109,25 @@ module _ (f f′ g g′ : ℕ → C64) where
         go true c d a b = refl
         go false c d a b = λ i. record { column = c; number = product (product w (z .number)) (quotient (b c (head refl) i) (a d (head refl) i)) } ∷ []
 
-    termsZ-local : (x y : Term) → Agree f f′ (readsY t p (x .column) (y .column)) → Agree g g′ (columnsZ t p (x .column) (y .column))
+    termsZ-local : (x y : Term) → Agree f f′ (nestZ t p (readAt t p) (x .column) (y .column)) → Agree g g′ (nestZ t p (columnAt t p) (x .column) (y .column))
         → termsZ t f g p x y ≡ termsZ t f′ g′ p x y
-    unfolding readsY columnsZ termsZ
+    unfolding nestZ termsZ
     termsZ-local x y =
         let w = product (x .number) (y .number) in
         terms-local (termAt t f g p (x .column) (y .column) w) (termAt t f′ g′ p (x .column) (y .column) w)
-        (readsZ t p (x .column) (y .column)) (columnAt t p (x .column) (y .column)) (term-local (x .column) (y .column) w)
+        (readAt t p (x .column) (y .column)) (columnAt t p (x .column) (y .column)) (term-local (x .column) (y .column) w)
         (axisTerms t 2 (isAlong p 2) (p .k)) (axis-columns t 2 (isAlong p 2) (p .k))
 
-    termsY-local : (x : Term) → Agree f f′ (readsX t p (x .column)) → Agree g g′ (columnsY t p (x .column)) → termsY t f g p x ≡ termsY t f′ g′ p x
-    unfolding readsX columnsY termsY
+    termsY-local : (x : Term) → Agree f f′ (nestY t p (readAt t p) (x .column)) → Agree g g′ (nestY t p (columnAt t p) (x .column)) → termsY t f g p x ≡ termsY t f′ g′ p x
+    unfolding nestY termsY
     termsY-local x =
-        terms-local (termsZ t f g p x) (termsZ t f′ g′ p x) (readsY t p (x .column)) (columnsZ t p (x .column)) (termsZ-local x)
+        terms-local (termsZ t f g p x) (termsZ t f′ g′ p x) (nestZ t p (readAt t p) (x .column)) (nestZ t p (columnAt t p) (x .column)) (termsZ-local x)
         (axisTerms t 1 (isAlong p 1) (p .j)) (axis-columns t 1 (isAlong p 1) (p .j))
 
-    termsX-local : Agree f f′ (each (readsX t p) (axisPlaces t 0 (isAlong p 0) (p .i))) → Agree g g′ (columnsX t p) → termsX t f g p ≡ termsX t f′ g′ p
-    unfolding columnsX termsX
+    termsX-local : Agree f f′ (nest t p (readAt t p)) → Agree g g′ (nest t p (columnAt t p)) → termsX t f g p ≡ termsX t f′ g′ p
+    unfolding nest termsX
     termsX-local =
-        terms-local (termsY t f g p) (termsY t f′ g′ p) (readsX t p) (columnsY t p) termsY-local
+        terms-local (termsY t f g p) (termsY t f′ g′ p) (nestY t p (readAt t p)) (nestY t p (columnAt t p)) termsY-local
         (axisTerms t 0 (isAlong p 0) (p .i)) (axis-columns t 0 (isAlong p 0) (p .i))
 
 -- f and f′ read the fine level, g and g′ the coarse one
@@ -139,13 +136,13 @@ pub row-local : (t : TwoLevels) (f f′ g g′ : ℕ → C64) (r : ℕ) → ((c 
 unfolding prolongationRow weightReads weightColumns
 row-local t f f′ g g′ r = go (fixedAt (fineLattice t) (atOf (fineGrid t) r)) (atOf (fineGrid t) r)
   where
-    go : (b : Bool) (p : Position) → Agree f f′ (cond b [] (each (readsX t p) (axisPlaces t 0 (isAlong p 0) (p .i)))) → Agree g g′ (cond b [] (columnsX t p))
+    go : (b : Bool) (p : Position) → Agree f f′ (cond b [] (nest t p (readAt t p))) → Agree g g′ (cond b [] (nest t p (columnAt t p)))
         → cond b [] (termsX t f g p) ≡ cond b [] (termsX t f′ g′ p)
     go true p u v = refl
     go false p u v = termsX-local f f′ g g′ t p u v
 
 -- a sum of inverses sees only what stands at its edges
-inverted-local : (f f′ : ℕ → C64) (cs : List ℕ) (s : C64) → Agree f f′ cs → summed (inverted f) s cs ≡ summed (inverted f′) s cs
+pub inverted-local : (f f′ : ℕ → C64) (cs : List ℕ) (s : C64) → Agree f f′ cs → summed (inverted f) s cs ≡ summed (inverted f′) s cs
 unfolding summed inverted
 inverted-local f f′ [] s h = refl
 inverted-local f f′ (c ∷ cs) s h = rw (h c (head refl)) (inverted-local f f′ cs (sum s (realOver oneF (f′ c))) (λ d m. h d (tail m)))

@@ -1,8 +1,8 @@
 -- Laws of the slots: what is worked out from the values' places, the nodes, the maps and the last ends of two levels is what the slots of the
 -- two levels hold.
 -- Assumes nothing.
-use Prim.Native.Nat.{ℕ, zero, suc, _+_, _-_, _*_, _/_, _%_, _<_, _≤_}
-use native.Mathlib.Nat.{le-of-suc-le-suc, not-suc-le-zero}
+use Prim.Native.Nat.{ℕ, _+_, _-_, _*_, _/_, _%_, _<_, _≤_}
+use native.Mathlib.Nat.{not-suc-le-zero}
 use native.Mathlib.Decide.{decLt}
 use native.Mathlib.Omega.{arith}
 use mathlib.Core.Path.{_≡_, refl, sym, ap, _∙_}
@@ -16,15 +16,15 @@ use Rattle.numbers.specs.Complex.{zeroNumber, noNumber}
 use Rattle.lattice.specs.declared.grid.Grid3d.{Grid3d}
 use Rattle.lattice.specs.declared.levels.Three.{Three}
 use Rattle.lattice.specs.declared.line.Line.{Line}
-use Rattle.lattice.specs.Grid.{axis3, nOf, Limits}
+use Rattle.lattice.specs.Grid.{nOf, Limits}
 use Rattle.lattice.specs.Line.{endsOf, placeOf, Held}
 use Rattle.lattice.specs.Lattice.{Medium, tabulate, edgesOf}
 use Rattle.lattice.specs.Terms.{Term}
-use Rattle.lattice.specs.Stretched.{mapList, acrossMap, alongMap}
-use Rattle.lattice.proofs.GridLaws.{axis-both, axis-each, n-some, n-most}
+use Rattle.lattice.specs.Stretched.{acrossMap, alongMap}
+use Rattle.lattice.proofs.GridLaws.{axis-each, n-some, n-most}
 use Rattle.lattice.proofs.LineLaws.{length-ends, ends-at}
-use Rattle.lattice.proofs.TabulateLaws.{length-tabulate, tabulate-at-0, is-tabulate, tabulate-agree}
-use Rattle.weights.specs.TwoLevels.{TwoLevels, fineLine, coarseLine, fineCells, coarseCells, nodeOn, gridWith, fineGrid, coarseGrid, twoOf}
+use Rattle.lattice.proofs.TabulateLaws.{length-tabulate, tabulate-at, is-tabulate, tabulate-agree}
+use Rattle.weights.specs.TwoLevels.{TwoLevels, fineLine, coarseLine, fineCells, coarseCells, gridWith, fineGrid, coarseGrid, twoOf}
 use Rattle.weights.specs.Interpolate.{valueAt, valuePlaces, takenPlaces, interpolated}
 use Rattle.weights.specs.Transfer.{numbersOf}
 use Rattle.weights.specs.Prolongation.{axisPlaces, axisTerms}
@@ -48,6 +48,7 @@ use Rattle.weights.specs.Tables.{
   Numbers,
   HeldThree,
   Paired,
+  entryAt,
   placesIn,
   slotWall,
   slotBlock,
@@ -61,11 +62,14 @@ use Rattle.weights.specs.Tables.{
   ValuesOf,
   EndsOf,
 }
+use Rattle.weights.proofs.ListLaws.{long-as, read-at}
 use Rattle.weights.proofs.ProductLaws.{free-most, free-inside}
+use Rattle.weights.proofs.TableLaws.{map-long, map-no}
+use Rattle.weights.proofs.TwoLevelLaws.{fine-grid, coarse-grid, fine-n, coarse-n, node-at}
 
--- ---- the grids of two levels
+-- ---- the lines' ends
 
--- the ends of a line that is held are low, there are two at least, and one more than cells
+-- the ends of a line that is held are low, and there are two at least
 line-low : {l : Line} → Held l → (m : ℕ) → m < length (endsOf l) → getD (endsOf l) m 0 < 129
 line-low {l} h m b =
     let k : m ≤ l .cells = omega (arith, length-ends l h) in
@@ -73,9 +77,6 @@ line-low {l} h m b =
 
 line-some : {l : Line} → Held l → 2 ≤ length (endsOf l)
 line-some {l} h = omega (arith, length-ends l h, h .some)
-
-line-cells : {l : Line} → Held l → l .cells ≡ length (endsOf l) - 1
-line-cells {l} h = omega (arith, length-ends l h)
 
 pub ends-low : {s : Three} → HeldThree s → (a m : ℕ) → m < length (linesIn s a) → getD (linesIn s a) m 0 < 129
 unfolding linesIn
@@ -85,57 +86,10 @@ pub ends-some : {s : Three} → HeldThree s → (a : ℕ) → 2 ≤ length (line
 unfolding linesIn
 ends-some h a = axis-each (λ (es : List ℕ). 2 ≤ length es) a (line-some (h .x-held)) (line-some (h .y-held)) (line-some (h .z-held))
 
--- the grid by the cells of the lines is the grid by their ends
-grid-cells : (g : Grid3d) {s : Three} → HeldThree s
-    → gridWith g (s .x .cells) (s .y .cells) (s .z .cells) ≡ gridWith g (length (endsOf (s .x)) - 1) (length (endsOf (s .y)) - 1) (length (endsOf (s .z)) - 1)
-grid-cells g h = λ i. gridWith g (line-cells (h .x-held) i) (line-cells (h .y-held) i) (line-cells (h .z-held) i)
-
--- the grids that are worked out are those of the two levels
-module _ (l : Medium) (fine coarse : Three) where
-  pub fine-grid : HeldThree fine → gridWith (l .grid) (fine .x .cells) (fine .y .cells) (fine .z .cells) ≡ fineGrid (twoOf l fine coarse)
-  unfolding fineGrid fineCells fineLine twoOf axis3
-  fine-grid h = grid-cells (l .grid) h
-
-  pub coarse-grid : HeldThree coarse → gridWith (l .grid) (coarse .x .cells) (coarse .y .cells) (coarse .z .cells) ≡ coarseGrid (twoOf l fine coarse)
-  unfolding coarseGrid coarseCells coarseLine twoOf axis3
-  coarse-grid h = grid-cells (l .grid) h
-
--- as many cells as the line has
-pub fine-n : (t : TwoLevels) (a : ℕ) → nOf (fineGrid t) a ≡ fineCells t a
-unfolding nOf fineGrid gridWith fineCells fineLine axis3
-fine-n t a = axis-both (λ (n : ℕ) (es : List ℕ). n ≡ length es - 1) a refl refl refl
-
-pub coarse-n : (t : TwoLevels) (a : ℕ) → nOf (coarseGrid t) a ≡ coarseCells t a
-unfolding nOf coarseGrid gridWith coarseCells coarseLine axis3
-coarse-n t a = axis-both (λ (n : ℕ) (es : List ℕ). n ≡ length es - 1) a refl refl refl
-
--- ---- lists
-
--- n places of a list from place e on
-pub length-places : (ps : List ℕ) (e n : ℕ) → length (placesIn ps e n) ≡ n
-unfolding placesIn
-length-places ps e zero = refl
-length-places ps e (suc n) = ap suc (length-places ps (suc e) n)
-
-pub places-at : (ps : List ℕ) (e n i : ℕ) → i < n → getD (placesIn ps e n) i 0 ≡ getD ps (e + i) 0
-unfolding placesIn
-places-at ps e zero i h = absurd (not-suc-le-zero h)
-places-at ps e (suc n) zero h = ap (λ (k : ℕ). getD ps k 0) (omega arith)
-places-at ps e (suc n) (suc i) h =
-    let k : suc e + i ≡ e + suc i = omega arith in
-    places-at ps (suc e) n i (le-of-suc-le-suc h) ∙ ap (λ (k : ℕ). getD ps k 0) k
-
 -- what a test lets through need agree only where it holds
 cond-agree : {A : Type 0} (b : Bool) (x y z : A) → (b ≡ true → x ≡ y) → cond b x z ≡ cond b y z
 cond-agree true x y z h = h refl
 cond-agree false x y z h = refl
-
--- a list as tabulated, read at a place
-pub read-at : {A : Type 0} {xs : List A} (f : ℕ → A) (n : ℕ) → xs ≡ tabulate f n 0 → (i : ℕ) (d : A) → i < n → getD xs i d ≡ f i
-read-at {A} {xs} f n e i d h = ap (λ (ys : List A). getD ys i d) e ∙ tabulate-at-0 f n i d h
-
-pub long-as : {A : Type 0} {xs : List A} (f : ℕ → A) (n : ℕ) → xs ≡ tabulate f n 0 → length xs ≡ n
-long-as {A} {xs} f n e = ap (λ (ys : List A). length ys) e ∙ length-tabulate f n 0
 
 -- ---- the values of a block
 
@@ -284,22 +238,13 @@ module _ {l : Medium} {fine coarse : Three} (p : Paired l fine coarse) where
           omega (arith, coarse-most p (slotAxis (e / 2)))
       go (no h) = rw (List·getD-eq-default (slotPlaces t (e / 2)) 0 {n = e % 2} (omega arith)) (omega arith)
 
-  -- the nodes, by axis and number
-  pub node-no : {nn : List ℕ} → nn ≡ tabulate (nodeNo (twoOf l fine coarse)) 195 0 → (a m : ℕ) → a < 3 → m < 65
-      → getD nn (65 * a + m) 0 ≡ nodeOn (twoOf l fine coarse) a m
-  unfolding nodeNo
-  node-no n a m h b =
-      let i : (65 * a + m) / 65 ≡ a = omega arith in
-      let j : (65 * a + m) % 65 ≡ m = omega arith in
-      read-at (nodeNo (twoOf l fine coarse)) 195 n (65 * a + m) 0 (omega arith) ∙ rw (i, j)
-
   node-is : {nn ps : List ℕ} → nn ≡ tabulate (nodeNo (twoOf l fine coarse)) 195 0 → ps ≡ tabulate (placeEntry (twoOf l fine coarse)) 768 0
       → (e : ℕ) → e < 768 → nodeFrom nn ps e ≡ nodeEntry (twoOf l fine coarse) e
   unfolding nodeFrom nodeEntry
   node-is n s e h =
       rw (
         read-at (placeEntry (twoOf l fine coarse)) 768 s e 0 h,
-        node-no n (slotAxis (e / 2)) (placeEntry (twoOf l fine coarse) e) (axis-below (e / 2) (omega arith)) (entry-low e),
+        node-at (twoOf l fine coarse) n (slotAxis (e / 2)) (placeEntry (twoOf l fine coarse) e) (axis-below (e / 2) (omega arith)) (entry-low e),
       )
 
   -- the fine places of the entries
@@ -313,21 +258,12 @@ module _ {l : Medium} {fine coarse : Three} (p : Paired l fine coarse) where
 
 -- ---- the maps
 
-map-long : (l : Medium) (a : ℕ) (along : Bool) → length (cond along (alongMap l a) (acrossMap l a)) ≡ 129
-unfolding alongMap acrossMap mapList
-map-long l a true = length-tabulate _ 129 0
-map-long l a false = length-tabulate _ 129 0
-
-map-no : (l : Medium) (q p : ℕ) → p < 129
-    → mapNo l (129 * (q / 64) + p) ≡ getD (cond (slotAlong q) (alongMap l (slotAxis q)) (acrossMap l (slotAxis q))) p noNumber
-unfolding mapNo slotAlong slotAxis
-map-no l q p h =
-    let i : (129 * (q / 64) + p) / 129 ≡ q / 64 = omega arith in
-    let j : (129 * (q / 64) + p) % 129 ≡ p = omega arith in
-    let k : q / 64 / 2 ≡ q / 128 = omega arith in
-    rw (i, j, k)
-
 -- the map of a slot's axis and role
+map-at : (l : Medium) (q p : ℕ) → p < 129
+    → mapNo l (129 * (q / 64) + p) ≡ getD (cond (slotAlong q) (alongMap l (slotAxis q)) (acrossMap l (slotAxis q))) p noNumber
+unfolding slotAlong slotAxis
+map-at l q p h = let k : q / 64 / 2 ≡ q / 128 = omega arith in rw k at (map-no l (q / 64) p h)
+
 pub map-is : (l : Medium) {xs : List Float} → Numbers (mapNo l) 774 xs → (q : ℕ) → q < 384
     → mapIn xs (q / 64) ≡ cond (slotAlong q) (alongMap l (slotAxis q)) (acrossMap l (slotAxis q))
 unfolding mapIn mapPoint
@@ -336,7 +272,7 @@ map-is l {xs} m q h =
     (is-tabulate (mapPoint xs (q / 64)) 129 noNumber
     (cond (slotAlong q) (alongMap l (slotAxis q)) (acrossMap l (slotAxis q)))
     (map-long l (slotAxis q) (slotAlong q))
-    (λ p b. sym (m .each-is (129 * (q / 64) + p) (omega arith) ∙ map-no l q p b)))
+    (λ p b. sym (m .each-is (129 * (q / 64) + p) (omega arith) ∙ map-at l q p b)))
 
 -- ---- what is worked out is what the slots hold
 
@@ -357,10 +293,10 @@ module _ {l : Medium} {fine coarse : Three} {gf gc : Grid3d} {fs cs : List ℕ} 
       (length (linesIn coarse (slotAxis q)) - 1)
       0
       (placesIn cs (q - slotPlace q) (nOf gc (slotAxis q)))
-      (length-places cs (q - slotPlace q) (nOf gc (slotAxis q)) ∙ n)
+      (length-tabulate (entryAt cs) (nOf gc (slotAxis q)) (q - slotPlace q) ∙ n)
       (λ i b.
       let c : i < 64 = omega arith in
-      places-at cs (q - slotPlace q) (nOf gc (slotAxis q)) i (omega arith)
+      tabulate-at (entryAt cs) (nOf gc (slotAxis q)) (q - slotPlace q) i 0 (omega arith)
       ∙ read-at (valueEntry (linesIn coarse)) 384 (w .values-coarse) (q - slotPlace q + i) 0 (block-below q i c h)
       ∙ block-value (linesIn coarse) q i c b)
 

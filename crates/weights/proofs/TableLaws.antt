@@ -20,8 +20,6 @@ use Rattle.lattice.specs.declared.grid.Grid3d.{Grid3d}
 use Rattle.lattice.specs.declared.lattice.Edges.{Edges}
 use Rattle.lattice.specs.declared.levels.Three.{Three}
 use Rattle.lattice.specs.declared.line.Line.{Line}
-use Rattle.lattice.specs.declared.neighbours.Arrival.{Arrival}
-use Rattle.lattice.specs.declared.neighbours.Arrival.the-variants.{To, Beyond}
 use Rattle.lattice.specs.Grid.{axis3, nOf, Limits}
 use Rattle.lattice.specs.Lattice.{Medium, tabulate, edgesOf, isWall}
 use Rattle.lattice.specs.Line.{endsOf, placeOf, nodesOf, Held}
@@ -30,17 +28,17 @@ use Rattle.lattice.specs.Terms.{Term}
 use Rattle.lattice.proofs.GridLaws.{n-some, n-most}
 use Rattle.lattice.proofs.LineLaws.{length-ends, ends-at, length-nodes}
 use Rattle.lattice.proofs.TabulateLaws.{length-tabulate, is-tabulate}
-use Rattle.weights.specs.declared.interpolate.Rule.{Rule}
-use Rattle.weights.specs.declared.interpolate.Rule.the-variants.{Coincides, Nearest, Between, Dropped}
 use Rattle.weights.specs.declared.interpolate.Spots.{Spots}
 use Rattle.weights.specs.declared.interpolate.Pulls.{Pulls}
 use Rattle.weights.specs.Lists.{laidBy, laid, laidNumbers}
 use Rattle.weights.specs.TwoLevels.{TwoLevels, fineLine, coarseLine, nodeOn}
-use Rattle.weights.specs.Interpolate.{lowSide, highSide, sidePlaces, rulePlaces, ruleOf, takenPlaces, interpolated}
-use Rattle.weights.specs.Product.{keptPlaces, keptTerms}
+use Rattle.weights.specs.Interpolate.{takenPlaces, interpolated}
+use Rattle.weights.specs.Product.{walled, keptPlaces, keptTerms}
 use Rattle.weights.specs.Transfer.{numbersOf}
 use Rattle.weights.specs.Tables.{slotAxis, slotAlong, slotPlace, slotWall, slotBlock, slotTaken, slotPulled, linesIn, valueEntry, endNo, nodeNo, mapNo, mapIn, placesIn, spotsOf, pullsOf, countFrom, placeFrom, pullFrom, Numbers, HeldThree, ValuesOf}
 use Rattle.weights.proofs.ListLaws.{laid-length, laid-before, laid-at, laid-numbers-length, laid-numbers-before, laid-numbers-at}
+use Rattle.weights.proofs.ProductLaws.{taken-most, kept-most}
+use Rattle.weights.proofs.TwoLevelLaws.{line-cells, node-no}
 
 -- ---- a loop that lays one value at each turn, m of them done: the others, laid from there on, come to the whole
 
@@ -103,20 +101,17 @@ module _ {f : ℕ → C64} {n : ℕ} where
 -- ---- the list of maps, block by block
 
 -- the map of block b
-abbrev mapOf : Medium → ℕ → List C64
+abbrev pub mapOf : Medium → ℕ → List C64
 mapOf l b = cond (eqb (b % 2) 1) (alongMap l (b / 2)) (acrossMap l (b / 2))
 
-map-long : (l : Medium) (b : ℕ) → length (mapOf l b) ≡ 129
+pub map-long : (l : Medium) (a : ℕ) (along : Bool) → length (cond along (alongMap l a) (acrossMap l a)) ≡ 129
 unfolding acrossMap alongMap mapList
-map-long l b = go (eqb (b % 2) 1)
-  where
-    go : (s : Bool) → length (cond s (alongMap l (b / 2)) (acrossMap l (b / 2))) ≡ 129
-    go true = length-tabulate _ 129 0
-    go false = length-tabulate _ 129 0
+map-long l a true = length-tabulate _ 129 0
+map-long l a false = length-tabulate _ 129 0
 
-map-at : (l : Medium) (b p : ℕ) → p < 129 → getD (mapOf l b) p noNumber ≡ mapNo l (129 * b + p)
+pub map-no : (l : Medium) (b p : ℕ) → p < 129 → mapNo l (129 * b + p) ≡ getD (mapOf l b) p noNumber
 unfolding mapNo
-map-at l b p h =
+map-no l b p h =
     let e : (129 * b + p) / 129 ≡ b = omega arith in
     let d : (129 * b + p) % 129 ≡ p = omega arith in
     rw (e, d)
@@ -125,9 +120,9 @@ map-at l b p h =
 pub maps-turn : (l : Medium) (b : ℕ) {xs ys : List Float} {vs : List C64} → b < 6 → vs ≡ mapOf l b → NumbersTo (mapNo l) 774 (129 * b) xs
     → ys ≡ laidNumbers xs (129 * b) vs → NumbersTo (mapNo l) 774 (129 * (b + 1)) ys
 maps-turn l b {xs} {ys} {vs} h e p q =
-    let w : length vs ≡ 129 = ap length e ∙ map-long l b in
+    let w : length vs ≡ 129 = ap length e ∙ map-long l (b / 2) (eqb (b % 2) 1) in
     let s : 129 * (b + 1) ≡ 129 * b + length vs = omega arith in
-    rw (q, s) (numbers-laid vs p (omega arith) (λ j k. ap (λ (us : List C64). getD us j noNumber) e ∙ map-at l b j (omega arith)))
+    rw (q, s) (numbers-laid vs p (omega arith) (λ j k. ap (λ (us : List C64). getD us j noNumber) e ∙ sym (map-no l b j (omega arith))))
 
 -- ---- the list of nodes, axis by axis: the first k are there
 
@@ -143,13 +138,6 @@ padded [] (suc n) (suc i) = padded [] n i
 padded (x ∷ xs) n zero = refl
 padded (x ∷ xs) n (suc i) = padded xs n i
 
-node-at : (t : TwoLevels) (a m : ℕ) → m < 65 → getD (nodesOf (fineLine t a) (coarseLine t a)) m 0 ≡ nodeNo t (65 * a + m)
-unfolding nodeNo nodeOn
-node-at t a m h =
-    let e : (65 * a + m) / 65 ≡ a = omega arith in
-    let d : (65 * a + m) % 65 ≡ m = omega arith in
-    rw (e, d)
-
 pub nodes-start : {t : TwoLevels} → NodesTo t 0 (replicate 195 0)
 nodes-start = record { long = length-replicate {A = ℕ} 195 0; done = λ i b. absurd (omega arith) }
 
@@ -157,6 +145,7 @@ nodes-start = record { long = length-replicate {A = ℕ} 195 0; done = λ i b. a
 pub nodes-turn : {t : TwoLevels} (a : ℕ) (fine : Line) {coarse : Line} {xs ys vs : List ℕ} → a < 3 → fineLine t a ≡ endsOf fine → coarseLine t a ≡ endsOf coarse
     → Held coarse → vs ≡ nodesOf (endsOf fine) (endsOf coarse) ++ replicate (64 - coarse .cells) 0 → NodesTo t (65 * a) xs → ys ≡ laid xs (65 * a) vs
     → NodesTo t (65 * (a + 1)) ys
+unfolding nodeOn
 nodes-turn {t} a fine {coarse} {xs} {ys} {vs} b f g c e p q =
     record { long = ap length q ∙ laid-length xs (65 * a) vs ∙ p .long; done = λ i h. rw q (go i h (ltb i (65 * a)) refl) }
   where
@@ -167,8 +156,8 @@ nodes-turn {t} a fine {coarse} {xs} {ys} {vs} b f g c e p q =
 
     at : (m : ℕ) → m < 65 → getD vs m 0 ≡ nodeNo t (65 * a + m)
     at m h =
-        rw e (padded (nodesOf (endsOf fine) (endsOf coarse)) (64 - coarse .cells) m)
-        ∙ (rw (f, g) at (node-at t a m h))
+        let k : getD (nodesOf (fineLine t a) (coarseLine t a)) m 0 ≡ nodeNo t (65 * a + m) = sym (node-no t a m h) in
+        rw e (padded (nodesOf (endsOf fine) (endsOf coarse)) (64 - coarse .cells) m) ∙ (rw (f, g) at k)
 
     go : (i : ℕ) → i < 65 * (a + 1) → (s : Bool) → ltb i (65 * a) ≡ s → getD (laid xs (65 * a) vs) i 0 ≡ nodeNo t i
     go i h true r = let l : i < 65 * a = ltb-true i (65 * a) r in laid-before xs (65 * a) vs i l ∙ p .done i l
@@ -185,19 +174,16 @@ nodes-whole {t} {xs} p = is-tabulate (nodeNo t) 195 0 xs (p .long) (p .done)
 -- ---- the values' places, and the last ends
 
 module _ (l : Line) (p : Held l) where
-  cells-are : length (endsOf l) - 1 ≡ l .cells
-  cells-are = omega (arith, length-ends l p)
-
   -- value i, where the line has it and where not
   pub value-held : (i : ℕ) (along : Bool) → i < l .cells
       → placeOf (endsOf l) i along ≡ cond (ltb i (length (endsOf l) - 1)) (placeOf (endsOf l) i along) 0
-  value-held i along h = rw (lt-ltb i (length (endsOf l) - 1) (omega (arith, cells-are)))
+  value-held i along h = rw (lt-ltb i (length (endsOf l) - 1) (omega (arith, line-cells p)))
 
   pub value-none : (i : ℕ) (along : Bool) → l .cells ≤ i → 0 ≡ cond (ltb i (length (endsOf l) - 1)) (placeOf (endsOf l) i along) 0
-  value-none i along h = rw (le-ltb i (length (endsOf l) - 1) (omega (arith, cells-are)))
+  value-none i along h = rw (le-ltb i (length (endsOf l) - 1) (omega (arith, line-cells p)))
 
   pub last-end : getD (l .ends) (l .cells) 0 ≡ getD (endsOf l) (length (endsOf l) - 1) 0
-  last-end = sym (ends-at l (l .cells) (omega arith)) ∙ ap (λ (i : ℕ). getD (endsOf l) i 0) (sym cells-are)
+  last-end = sym (ends-at l (l .cells) (omega arith)) ∙ ap (λ (i : ℕ). getD (endsOf l) i 0) (line-cells p)
 
 pub last-ends : (s : Three) → HeldThree s
     → getD (s .x .ends) (s .x .cells) 0 ∷ (getD (s .y .ends) (s .y .cells) 0 ∷ (getD (s .z .ends) (s .z .cells) 0 ∷ []))
@@ -265,30 +251,8 @@ free-inside false i h = refl
 
 -- ---- a slot takes at most two
 
-side-few : (s : Arrival) → length (sidePlaces s) ≤ 1
-side-few Beyond = omega arith
-side-few (To m w) = omega arith
-
-sides-few : (s u : Arrival) → length (sidePlaces s ++ sidePlaces u) ≤ 2
-sides-few s u = omega (arith, length-append (sidePlaces s) (sidePlaces u), side-few s, side-few u)
-
-rule-few : (e : Edges) (n : ℕ) (r : Rule) → length (rulePlaces e n r) ≤ 2
-rule-few e n (Coincides m) = omega arith
-rule-few e n (Nearest m) = omega arith
-rule-few e n (Between h) = sides-few (lowSide e n h) (highSide e n h)
-rule-few e n (Dropped h) = sides-few (lowSide e n h) (highSide e n h)
-
-kept-few : (wall : Bool) (ms : List ℕ) → length (keptPlaces wall ms) ≤ length ms
-unfolding keptPlaces
-kept-few wall [] = omega arith
-kept-few wall (m ∷ ms) = go (wall && eqb m 0) (kept-few wall ms)
-  where
-    go : (b : Bool) → length (keptPlaces wall ms) ≤ length ms → length (cond b (keptPlaces wall ms) (m ∷ keptPlaces wall ms)) ≤ suc (length ms)
-    go true h = omega arith
-    go false h = omega arith
-
 pub taken-few : (l : Medium) (gf gc : Grid3d) (fs cs : List ℕ) (q : ℕ) → length (slotTaken l gf gc fs cs q) ≤ 2
-unfolding slotTaken takenPlaces
+unfolding slotTaken
 taken-few l gf gc fs cs q = go (ltb (slotPlace q) (nOf gf (slotAxis q))) (slotWall l q && eqb (slotPlace q) 0)
   where
     e : Edges
@@ -297,13 +261,15 @@ taken-few l gf gc fs cs q = go (ltb (slotPlace q) (nOf gf (slotAxis q))) (slotWa
     bs : List ℕ
     bs = slotBlock gc cs q
 
-    r : Rule
-    r = ruleOf e bs (slotAlong q) (getD fs q 0)
-
-    go : (a b : Bool) → length (cond a (cond b [] (keptPlaces (slotWall l q) (rulePlaces e (length bs) r))) []) ≤ 2
+    go : (a b : Bool) → length (cond a (cond b [] (keptPlaces (slotWall l q) (takenPlaces e bs (slotAlong q) (getD fs q 0)))) []) ≤ 2
     go false b = omega arith
     go true true = omega arith
-    go true false = omega (arith, kept-few (slotWall l q) (rulePlaces e (length bs) r), rule-few e (length bs) r)
+    go true false =
+        omega (
+          arith,
+          kept-most (slotWall l q) (takenPlaces e bs (slotAlong q) (getD fs q 0)),
+          taken-most e bs (slotAlong q) (getD fs q 0),
+        )
 
 -- ---- what is read of the entries by value
 
@@ -353,9 +319,9 @@ module _ (l : Medium) (gf gc : Grid3d) (fs cs : List ℕ) where
 
 module _ (l : Medium) (q : ℕ) {a : Bool} (p : a ≡ slotAlong q) where
   pub wall-across : {e : Edges} {w : Bool} → not a ≡ true → e ≡ edgesOf l (q / 128) → w ≡ isWall e → w ≡ slotWall l q
-  unfolding slotWall slotAxis
+  unfolding slotWall walled slotAxis
   wall-across h e f = rw (← p, not-true a h) (f ∙ ap isWall e)
 
   pub wall-along : not a ≡ false → not a ≡ slotWall l q
-  unfolding slotWall slotAxis
+  unfolding slotWall walled slotAxis
   wall-along h = rw (← p, not-false a h)

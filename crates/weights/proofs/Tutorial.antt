@@ -16,20 +16,14 @@ use lib.Ieee.{Float}
 use Rattle.numbers.specs.declared.C64.{C64}
 use Rattle.numbers.specs.Complex.{noNumber}
 use Rattle.numbers.specs.Places.{numberAt}
-use Rattle.lattice.specs.Lattice.{tabulate}
 use Rattle.lattice.specs.Line.{Rises}
 use Rattle.lattice.specs.Terms.{Term, columnsOf, termsIn}
-use Rattle.lattice.proofs.TabulateLaws.{length-tabulate, tabulate-at-0}
 use Rattle.weights.specs.Lists.{rows}
-use Rattle.weights.specs.Transfer.{numbersOf, startOf, startsOf, turnedFrom, turnedPart, turnedRow, weightsAt, foundFrom, foundPart, turnedReads, storedRow, contains, repeats, someRepeats, Turned}
-use Rattle.weights.proofs.EachLaws.{columns-append}
-use Rattle.weights.proofs.ListLaws.{laid-at, laid-numbers-at, rows-agree, rows-length}
+use Rattle.weights.specs.Transfer.{numbersOf, startOf, turnedFrom, turnedPart, turnedRow, weightsAt, foundFrom, foundPart, turnedReads, storedRow, contains, repeats, someRepeats, Turned}
+use Rattle.weights.proofs.EachLaws.{columns-append, numbers-append, length-columns, length-numbers}
+use Rattle.weights.proofs.ListLaws.{through, laid-at, laid-numbers-at, rows-agree, rows-length, rows-room, rows-at, starts-laid}
 
 -- ---- rows one behind another
-
--- h of each row
-abbrev pub through : {A B : Type 0} → (List A → List B) → (ℕ → List A) → ℕ → List B
-through h f r = h (f r)
 
 module _ {A B : Type 0} (h : List A → List B) (none : h [] ≡ []) (both : (xs ys : List A) → h (xs ++ ys) ≡ h xs ++ h ys) (f : ℕ → List A) where
   -- what goes through appending goes through rows
@@ -59,35 +53,7 @@ module _ {A : Type 0} where
   unfolding startOf
   start-more f r = omega (arith, rows-length f r)
 
-  -- a row ends within the rows
-  row-inside : (f : ℕ → List A) (n r : ℕ) → r < n → startOf f r + length (f r) ≤ length (rows f n)
-  unfolding startOf
-  row-inside f zero r h = absurd (omega arith)
-  row-inside f (suc n) r h = go (ℕ-discrete r n) (row-inside f n r)
-    where
-      go : Dec (r ≡ n) → (r < n → length (rows f r) + length (f r) ≤ length (rows f n)) → length (rows f r) + length (f r) ≤ length (rows f (suc n))
-      go (yes e) g = rw e (omega (arith, rows-length f n))
-      go (no o) g = omega (arith, rows-length f n, g (omega arith))
-
-  -- and begins where those before it end
-  row-place : (f : ℕ → List A) (n r j : ℕ) (d : A) → r < n → j < length (f r) → getD (rows f n) (startOf f r + j) d ≡ getD (f r) j d
-  unfolding rows startOf
-  row-place f zero r j d h k = absurd (omega arith)
-  row-place f (suc n) r j d h k = go (ℕ-discrete r n) (row-place f n r j d)
-    where
-      go : Dec (r ≡ n) → (r < n → j < length (f r) → getD (rows f n) (length (rows f r) + j) d ≡ getD (f r) j d)
-          → getD (rows f n ++ f n) (length (rows f r) + j) d ≡ getD (f r) j d
-      go (yes e) g = rw e (getD-append-add (rows f n) (f n) j d)
-      go (no o) g =
-          let b : r < n = omega arith in
-          List·getD-append (rows f n) (f n) d (length (rows f r) + j) (omega (arith, row-inside f n r b)) ∙ g b k
-
 -- ---- columns, numbers and weights of terms one behind another
-
-numbers-append : (ts us : List Term) → numbersOf (ts ++ us) ≡ numbersOf ts ++ numbersOf us
-unfolding numbersOf
-numbers-append [] us = refl
-numbers-append (t ∷ ts) us = ap (λ (vs : List C64). t .number ∷ vs) (numbers-append ts us)
 
 weights-append : (c : ℕ) (ts us : List Term) → weightsAt c (ts ++ us) ≡ weightsAt c ts ++ weightsAt c us
 unfolding weightsAt
@@ -98,16 +64,6 @@ weights-append c (t ∷ ts) us = go (eqb (t .column) c) (weights-append c ts us)
         → cond b (t .number ∷ weightsAt c (ts ++ us)) (weightsAt c (ts ++ us)) ≡ cond b (t .number ∷ weightsAt c ts) (weightsAt c ts) ++ weightsAt c us
     go true e = ap (λ (vs : List C64). t .number ∷ vs) e
     go false e = e
-
-pub length-columns : (ts : List Term) → length (columnsOf ts) ≡ length ts
-unfolding columnsOf
-length-columns [] = refl
-length-columns (t ∷ ts) = ap suc (length-columns ts)
-
-pub length-numbers : (ts : List Term) → length (numbersOf ts) ≡ length ts
-unfolding numbersOf
-length-numbers [] = refl
-length-numbers (t ∷ ts) = ap suc (length-numbers ts)
 
 module _ (row : ℕ → List Term) (n : ℕ) where
   pub columns-rows : columnsOf (rows row n) ≡ rows (through columnsOf row) n
@@ -277,7 +233,7 @@ module _ (row : ℕ → List Term) (c : ℕ) where
 -- ---- refusal 8 and strictness
 
 -- a column that is not contained has no weight
-none-named : (c : ℕ) (ts : List Term) → contains c (columnsOf ts) ≡ false → weightsAt c ts ≡ []
+pub none-named : (c : ℕ) (ts : List Term) → contains c (columnsOf ts) ≡ false → weightsAt c ts ≡ []
 unfolding contains columnsOf weightsAt
 none-named c [] e = refl
 none-named c (t ∷ ts) e = go (eqb (t .column) c) e (none-named c ts)
@@ -355,14 +311,16 @@ module _ (row : ℕ → List Term) where
   module _ (n r j i : ℕ) (e : i ≡ startOf row r + j) (h : r < n) (k : j < length (row r)) where
     -- a row's columns and numbers among those of all rows
     column-place : (d : ℕ) → getD (columnsOf (rows row n)) i d ≡ getD (columnsOf (row r)) j d
+    unfolding startOf
     column-place d =
         let q : i ≡ startOf (through columnsOf row) r + j = omega (arith, start-columns r) in
-        rw (columns-rows row n, q) (row-place (through columnsOf row) n r j d h (omega (arith, length-columns (row r))))
+        rw (columns-rows row n, q) (rows-at (through columnsOf row) n r j d h (omega (arith, length-columns (row r))))
 
     number-place : (d : C64) → getD (numbersOf (rows row n)) i d ≡ getD (numbersOf (row r)) j d
+    unfolding startOf
     number-place d =
         let q : i ≡ startOf (through numbersOf row) r + j = omega (arith, start-numbers r) in
-        rw (numbers-rows row n, q) (row-place (through numbersOf row) n r j d h (omega (arith, length-numbers (row r))))
+        rw (numbers-rows row n, q) (rows-at (through numbersOf row) n r j d h (omega (arith, length-numbers (row r))))
 
   -- the numbers of a turned row are the rows' own, read at the places that `turnedReads` lists
   pub turned-reads : (n c : ℕ) (d : C64) → numbersOf (turnedRow row n c) ≡ map (numberNo row n d) (turnedReads (through columnsOf row) n c)
@@ -396,16 +354,10 @@ terms-read d cs xs (t ∷ ts) k p q =
 
 module _ {row : ℕ → List Term} {n s k : ℕ} {starts cs starts′ cs′ : List ℕ} {xs xs′ : List Float} (t : Turned row n starts s cs xs k starts′ cs′ xs′)
     (starts-room : s + n < length starts) (columns-room : k + startOf row n ≤ length cs) (numbers-room : 2 * (k + startOf row n) ≤ length xs) where
-  start-at : (r : ℕ) → r ≤ n → getD starts′ (s + r) 0 ≡ startOf row r
-  unfolding startsOf
-  start-at r h =
-      let l : length (tabulate (startOf row) (n + 1) 0) ≡ n + 1 = length-tabulate (startOf row) (n + 1) 0 in
-      rw (t .starts-are, laid-at starts s (tabulate (startOf row) (n + 1) 0) r (omega arith) (omega arith))
-      (tabulate-at-0 (startOf row) (n + 1) r 0 (omega arith))
-
   module _ (r : ℕ) (h : r < n) (j i : ℕ) (e : i ≡ k + startOf row r + j) (o : j < length (row r)) where
     within : startOf row r + j < length (rows row n)
-    within = omega (arith, row-inside row n r h)
+    unfolding startOf
+    within = omega (arith, rows-room row n r h)
 
     column-at : getD cs′ i 0 ≡ getD (columnsOf (row r)) j 0
     unfolding startOf
@@ -427,10 +379,10 @@ module _ {row : ℕ → List Term} {n s k : ℕ} {starts cs starts′ cs′ : Li
   pub stored-is : (r : ℕ) → r < n → storedRow starts′ s cs′ xs′ k r ≡ row r
   unfolding storedRow
   stored-is r h =
-      let a : getD starts′ (s + r) 0 ≡ startOf row r = start-at r (omega arith) in
+      let a : getD starts′ (s + r) 0 ≡ startOf row r = starts-laid row n starts s (t .starts-are) starts-room r (omega arith) in
       let q : s + r + 1 ≡ s + suc r = omega arith in
       let m : startOf row (suc r) - startOf row r ≡ length (row r) = start-more row r in
-      rw (q, a, start-at (suc r) (omega arith), m) (terms-read noNumber cs′ xs′ (row r) (k + startOf row r) (column-at r h) (number-at r h))
+      rw (q, a, starts-laid row n starts s (t .starts-are) starts-room (suc r) (omega arith), m) (terms-read noNumber cs′ xs′ (row r) (k + startOf row r) (column-at r h) (number-at r h))
 
 -- the transpose as it stands in lists: turned row c holds at r what row r holds at c
 pub stored-condition : (row : ℕ → List Term) (n : ℕ) {m s k : ℕ} {starts cs starts′ cs′ : List ℕ} {xs xs′ : List Float}

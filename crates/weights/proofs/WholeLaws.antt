@@ -4,36 +4,35 @@ use Prim.Native.Nat.{ℕ, zero, suc, _+_, _*_, _<_, _≤_, _^_}
 use native.Mathlib.Omega.{arith}
 use mathlib.Core.Path.{_≡_, refl, sym, ap, _∙_, subst}
 use mathlib.Core.Bool.{Bool, true, false, cond}
-use mathlib.Core.List.{List, [], _∷_, _++_, List·Memᴰ as In, List·Memᴰ·head as head, List·Memᴰ·tail as tail}
+use mathlib.Core.List.{List, [], _∷_, List·Memᴰ as In, List·Memᴰ·head as head, List·Memᴰ·tail as tail}
 use lib.ListN.{length, getD, set}
 use lib.Ieee.{Float}
 use Rattle.numbers.specs.declared.C64.{C64}
 use Rattle.numbers.specs.Complex.{noNumber}
-use Rattle.numbers.specs.Places.{numberAt}
 use Rattle.numbers.proofs.Laws.{and-true, and-false}
 use Rattle.lattice.specs.declared.grid.Position.{Position}
-use Rattle.lattice.specs.Grid.{axis3, atOf, indexOf, placeOn, unknownsOf, Limits, Inside}
-use Rattle.lattice.specs.Lattice.{Medium, tabulate}
+use Rattle.lattice.specs.Grid.{axis3, atOf, placeOn, unknownsOf, Limits, Inside}
+use Rattle.lattice.specs.Lattice.{Medium}
 use Rattle.lattice.specs.Neighbours.{fixedAt}
-use Rattle.lattice.specs.Terms.{Term, columnsOf, each}
+use Rattle.lattice.specs.Terms.{Term, columnsOf}
 use Rattle.lattice.specs.declared.levels.Three.{Three}
 use Rattle.lattice.specs.declared.grid.Grid3d.{Grid3d}
 use Rattle.lattice.proofs.GridLaws.{index-below, at-inside, unknowns-most}
-use Rattle.lattice.proofs.TabulateLaws.{length-tabulate, tabulate-at-0, tabulate-agree}
+use Rattle.lattice.proofs.TabulateLaws.{length-tabulate, tabulate-at-0}
 use Rattle.weights.specs.Lists.{rows, laid, laidNumbers, Laid, allFinite}
 use Rattle.weights.specs.TwoLevels.{TwoLevels, gridWith, fineGrid, coarseGrid, fineCells, coarseCells, nodeOn, fineLattice, coarseLattice, twoOf}
 use Rattle.weights.specs.CoarseEps.{coarseEps}
-use Rattle.weights.specs.Prolongation.{axisPlaces, isAlong, edgeAt, readPlace, readEdge, readsZ, readsY, readsX, weightReads, weightColumns, weightNumbers, prolongationRow}
+use Rattle.weights.specs.Prolongation.{isAlong, edgeAt, readPlace, readEdge, nestZ, nestY, nest, readAt, weightReads, weightColumns, weightNumbers, prolongationRow}
 use Rattle.weights.specs.Transfer.{numbersOf, startOf, startsOf, storedRow, turnedRow, Stored, Room, Turned}
-use Rattle.weights.specs.Tables.{Paired, readFrom, ChainRoom, RoomFor}
+use Rattle.weights.specs.Tables.{Paired, readFrom, RoomFor}
 use Rattle.weights.specs.Whole.{fineEdges, coarseEdges, weightsIn, epsOf, allWeights, WholeRoom, WholeLeft, wholeFinite}
 use Rattle.weights.specs.declared.whole.Offsets.{Offsets}
 use Rattle.weights.proofs.EachLaws.{All, none, more, all-append, all-at, all-each}
-use Rattle.weights.proofs.ListLaws.{laid-length, laid-at, laid-numbers-length, laid-numbers-before, laid-numbers-at, rows-agree, rows-length, rows-most}
-use Rattle.weights.proofs.EpsLaws.{fine-is, coarse-is}
-use Rattle.weights.proofs.ProductLaws.{axis-inside, terms-columns, weights-most}
+use Rattle.weights.proofs.ListLaws.{through, laid-length, laid-at, laid-numbers-length, laid-numbers-before, laid-numbers-at, rows-agree, rows-length, start-agree, starts-agree, starts-laid}
+use Rattle.weights.proofs.TwoLevelLaws.{fine-grid, coarse-grid}
+use Rattle.weights.proofs.ProductLaws.{axis-inside, terms-columns, starts-few}
 use Rattle.weights.proofs.RowTheorems.{FreeEdge, columns-free, row-local}
-use Rattle.weights.proofs.Tutorial.{through, columns-rows, numbers-rows, start-columns, turned-local, stored-is}
+use Rattle.weights.proofs.Tutorial.{columns-rows, numbers-rows, start-columns, turned-local, stored-is}
 
 -- ---- what a row reads lies in its levels
 
@@ -47,7 +46,7 @@ either : (b : Bool) (x y n : ℕ) → x < n → y < n → cond b x y < n
 either true x y n h k = h
 either false x y n h k = k
 
-module _ (t : TwoLevels) (fl : Limits (fineGrid t)) (cl : Limits (coarseGrid t)) (nest : (a m : ℕ) → m < coarseCells t a → nodeOn t a m < fineCells t a) where
+module _ (t : TwoLevels) (fl : Limits (fineGrid t)) (cl : Limits (coarseGrid t)) (nested : (a m : ℕ) → m < coarseCells t a → nodeOn t a m < fineCells t a) where
   abbrev Low : ℕ → Type 0
   Low c = c < unknownsOf (fineGrid t)
 
@@ -58,21 +57,21 @@ module _ (t : TwoLevels) (fl : Limits (fineGrid t)) (cl : Limits (coarseGrid t))
         index-below fl
         (record {
           c-in = h .c-in;
-          i-in = either (isAlong p 0) (p .i) (nodeOn t 0 i) (fineCells t 0) (h .i-in) (nest 0 i x);
-          j-in = either (isAlong p 1) (p .j) (nodeOn t 1 j) (fineCells t 1) (h .j-in) (nest 1 j y);
-          k-in = either (isAlong p 2) (p .k) (nodeOn t 2 k) (fineCells t 2) (h .k-in) (nest 2 k z);
+          i-in = either (isAlong p 0) (p .i) (nodeOn t 0 i) (fineCells t 0) (h .i-in) (nested 0 i x);
+          j-in = either (isAlong p 1) (p .j) (nodeOn t 1 j) (fineCells t 1) (h .j-in) (nested 1 j y);
+          k-in = either (isAlong p 2) (p .k) (nodeOn t 2 k) (fineCells t 2) (h .k-in) (nested 2 k z);
         })
 
     one-low : (b : Bool) (c : ℕ) → Low c → All Low (cond b [] (c ∷ []))
     one-low true c q = none
     one-low false c q = more q none
 
-    all-low : All Low (each (readsX t p) (axisPlaces t 0 (isAlong p 0) (p .i)))
-    unfolding readsX readsY readsZ coarseGrid gridWith
+    all-low : All Low (nest t p (readAt t p))
+    unfolding nest nestY nestZ readAt coarseGrid gridWith
     all-low =
-        all-each (readsX t p)
-        (λ i x. all-each (readsY t p i)
-        (λ j y. all-each (readsZ t p i j)
+        all-each (nestY t p (readAt t p))
+        (λ i x. all-each (nestZ t p (readAt t p) i)
+        (λ j y. all-each (readAt t p i j)
         (λ k z. one-low (fixedAt (coarseLattice t) (edgeAt p i j k)) (readEdge t p i j k) (read-low i j k x y z))
         (axis-inside t 2 (isAlong p 2) (p .k) (cl .z-some)))
         (axis-inside t 1 (isAlong p 1) (p .j) (cl .y-some)))
@@ -83,7 +82,7 @@ module _ (t : TwoLevels) (fl : Limits (fineGrid t)) (cl : Limits (coarseGrid t))
   unfolding weightReads
   reads-inside r b = go (fixedAt (fineLattice t) (atOf (fineGrid t) r))
     where
-      go : (b : Bool) → All Low (cond b [] (each (readsX t (atOf (fineGrid t) r)) (axisPlaces t 0 (isAlong (atOf (fineGrid t) r) 0) (atOf (fineGrid t) r .i))))
+      go : (b : Bool) → All Low (cond b [] (nest t (atOf (fineGrid t) r) (readAt t (atOf (fineGrid t) r))))
       go true = none
       go false = all-low (atOf (fineGrid t) r) (at-inside fl r b)
 
@@ -130,18 +129,6 @@ module _ (t : TwoLevels) (fl : Limits (fineGrid t)) (cl : Limits (coarseGrid t))
   unfolding startOf
   starts-rise r = omega (arith, rows-length (weightColumns t) r)
 
-  pub weights-few : weightsIn t ≤ 8 * fineEdges t
-  unfolding startOf
-  weights-few = rows-most (weightColumns t) 8 (fineEdges t) (λ r h. weights-most t r)
-
-  module _ (ss : List ℕ) {ss′ : List ℕ} (s : ℕ) (se : ss′ ≡ laid ss s (startsOf (weightColumns t) (fineEdges t))) (sr : s + fineEdges t < length ss) where
-    pub begins : (r : ℕ) → r ≤ fineEdges t → getD ss′ (s + r) 0 ≡ startOf (weightColumns t) r
-    unfolding startsOf
-    begins r h =
-        let l : length (tabulate (startOf (weightColumns t)) (fineEdges t + 1) 0) ≡ fineEdges t + 1 = length-tabulate (startOf (weightColumns t)) (fineEdges t + 1) 0 in
-        rw (se, laid-at ss s (tabulate (startOf (weightColumns t)) (fineEdges t + 1) 0) r (omega (arith, l)) (omega (arith, l)))
-        (tabulate-at-0 (startOf (weightColumns t)) (fineEdges t + 1) r 0 (omega arith))
-
   module _ (ss cs : List ℕ) {ss′ cs′ : List ℕ} (xs′ : List Float) (s k : ℕ) (se : ss′ ≡ laid ss s (startsOf (weightColumns t) (fineEdges t)))
       (ce : cs′ ≡ laid cs k (rows (weightColumns t) (fineEdges t))) (sr : s + fineEdges t < length ss) (cr : k + weightsIn t ≤ length cs)
       (xr : 2 * (k + weightsIn t) ≤ length xs′) (sl : s ≤ 2 ^ 32) (kl : k ≤ 2 ^ 32) where
@@ -149,14 +136,14 @@ module _ (t : TwoLevels) (fl : Limits (fineGrid t)) (cl : Limits (coarseGrid t))
     unfolding startOf rows
     stored =
         let z : s + 0 ≡ s = omega arith in
-        let e : getD ss′ (s + fineEdges t) 0 ≡ weightsIn t = begins ss s se sr (fineEdges t) (omega arith) in
+        let e : getD ss′ (s + fineEdges t) 0 ≡ weightsIn t = starts-laid (weightColumns t) (fineEdges t) ss s se sr (fineEdges t) (omega arith) in
         let m : fineEdges t ≤ 12288 = unknowns-most fl in
         let b : ss′ ≡ laid ss s (startsOf (weightColumns t) (fineEdges t)) = se in
         record {
-          first = ap (λ (i : ℕ). getD ss′ i 0) (sym z) ∙ begins ss s se sr 0 (omega arith);
+          first = ap (λ (i : ℕ). getD ss′ i 0) (sym z) ∙ starts-laid (weightColumns t) (fineEdges t) ss s se sr 0 (omega arith);
           rise = λ r h.
               let q : s + r + 1 ≡ s + suc r = omega arith in
-              omega (arith, begins ss s se sr r (omega arith), ap (λ (i : ℕ). getD ss′ i 0) q, begins ss s se sr (suc r) (omega arith), starts-rise r);
+              omega (arith, starts-laid (weightColumns t) (fineEdges t) ss s se sr r (omega arith), ap (λ (i : ℕ). getD ss′ i 0) q, starts-laid (weightColumns t) (fineEdges t) ss s se sr (suc r) (omega arith), starts-rise r);
           starts-room = omega (arith, ap length se, laid-length ss s (startsOf (weightColumns t) (fineEdges t)));
           columns-room = omega (arith, e, ap length ce, laid-length cs k (rows (weightColumns t) (fineEdges t)));
           numbers-room = omega (arith, e);
@@ -167,21 +154,12 @@ module _ (t : TwoLevels) (fl : Limits (fineGrid t)) (cl : Limits (coarseGrid t))
               (all-at (rows-free (fineEdges t) (omega arith)) q 0 w .low);
           rows-few = m;
           columns-few = unknowns-most cl;
-          all-few = omega (arith, e, weights-few);
+          all-few = omega (arith, e, starts-few t (fineEdges t));
           starts-low = sl;
           low = kl;
         }
 
 -- ---- the turned part
-
--- starts of rows that are as long
-starts-agree : {A B : Type 0} (f : ℕ → List A) (g : ℕ → List B) (n : ℕ) → ((r : ℕ) → r < n + 1 → startOf f r ≡ startOf g r) → startsOf f n ≡ startsOf g n
-unfolding startsOf
-starts-agree f g n h = tabulate-agree (startOf f) (startOf g) (n + 1) 0 h
-
-rows-start : {A : Type 0} (f g : ℕ → List A) (n : ℕ) → ((r : ℕ) → r < n → f r ≡ g r) → (r : ℕ) → r < n + 1 → startOf f r ≡ startOf g r
-unfolding startOf
-rows-start f g n h r b = ap length (rows-agree f g r (λ q o. h q (omega arith)))
 
 -- a transfer by other rows that are the same
 turned-as : (f g : ℕ → List Term) (m : ℕ) → ((c : ℕ) → c < m → f c ≡ g c) → {ss cs ss′ cs′ : List ℕ} {xs xs′ : List Float} {s k : ℕ}
@@ -189,7 +167,7 @@ turned-as : (f g : ℕ → List Term) (m : ℕ) → ((c : ℕ) → c < m → f c
 turned-as f g m h {ss} {cs} {ss′} {cs′} {xs} {xs′} {s} {k} t =
     let e : rows f m ≡ rows g m = rows-agree f g m h in
     record {
-      starts-are = t .starts-are ∙ ap (λ (l : List ℕ). laid ss s l) (starts-agree f g m (rows-start f g m h));
+      starts-are = t .starts-are ∙ ap (λ (l : List ℕ). laid ss s l) (starts-agree f g m (start-agree f g m h));
       columns-are = t .columns-are ∙ ap (λ (l : List Term). laid cs k (columnsOf l)) e;
       numbers-are = t .numbers-are ∙ ap (λ (l : List Term). laidNumbers xs k (numbersOf l)) e;
     }
@@ -244,16 +222,13 @@ module _ {l : Medium} {fine coarse : Three} (d : Paired l fine coarse) where
 
   -- the grids by the lines' cells
   pub fine-limited : {g : Grid3d} → g ≡ gridWith (l .grid) (fine .x .cells) (fine .y .cells) (fine .z .cells) → Limits g
-  fine-limited e = subst Limits (sym (e ∙ fine-is l fine coarse (d .fine-held))) (d .fine-limits)
+  fine-limited e = subst Limits (sym (e ∙ fine-grid l fine coarse (d .fine-held))) (d .fine-limits)
 
   pub coarse-limited : {g : Grid3d} → g ≡ gridWith (l .grid) (coarse .x .cells) (coarse .y .cells) (coarse .z .cells) → Limits g
-  coarse-limited e = subst Limits (sym (e ∙ coarse-is l fine coarse (d .coarse-held))) (d .coarse-limits)
+  coarse-limited e = subst Limits (sym (e ∙ coarse-grid l fine coarse (d .coarse-held))) (d .coarse-limits)
 
   module _ {o : Offsets} {eps xs ys : List Float} {ss cs ts us : List ℕ} (room : WholeRoom two o eps ss cs xs ts us ys) where
     -- the permittivities of both levels are there
-    pub chain-room : ChainRoom (fineEdges two) (coarseEdges two) (o .feps) (o .ceps) eps
-    chain-room = record { apart = room .apart; room = room .eps-room; low = room .ceps-low }
-
     pub room-for : {eps′ : List Float} (vs : List C64) → eps′ ≡ laidNumbers eps (o .ceps) vs → RoomFor two (o .feps) (o .ceps) eps′
     room-for vs e =
         let n : length (laidNumbers eps (o .ceps) vs) ≡ length eps = laid-numbers-length eps (o .ceps) vs in
@@ -286,7 +261,7 @@ module _ {l : Medium} {fine coarse : Three} (d : Paired l fine coarse) where
       turn-ready vs e =
           let z : length (laidNumbers xs (o .k) vs) ≡ length xs = laid-numbers-length xs (o .k) vs in
           let b : getD ss′ (o .s + fineEdges two) 0 ≡ weightsIn two =
-          begins two (d .fine-limits) (d .coarse-limits) (d .nested) ss (o .s) se (room .starts-room) (fineEdges two) (omega arith) in
+          starts-laid (weightColumns two) (fineEdges two) ss (o .s) se (room .starts-room) (fineEdges two) (omega arith) in
           let w : Stored ss′ (o .s) cs′ xs′ (o .k) (fineEdges two) (coarseEdges two) =
           stored two (d .fine-limits) (d .coarse-limits) (d .nested) ss cs xs′ (o .s) (o .k) se (ce .list) (room .starts-room) (room .columns-room)
           (omega (arith, ap length e, z, room .values-room)) (room .s-low) (room .k-low) in

@@ -6,6 +6,7 @@ use mathlib.Core.List.{List}
 use lib.ListN.{length}
 use Rattle.numbers.specs.declared.C64.{C64}
 use Rattle.numbers.specs.Complex.{oneF, zeroNumber, realOver}
+use Rattle.lattice.specs.declared.grid.Grid3d.{Grid3d}
 use Rattle.lattice.specs.declared.grid.Position.{Position}
 use Rattle.lattice.specs.Grid.{placeOn, movedTo, indexOf, atOf}
 use Rattle.lattice.specs.Lattice.{tabulate}
@@ -17,16 +18,19 @@ use Rattle.weights.specs.Interpolate.{whole}
 unfoldable pub onFine : TwoLevels → Position → Position
 onFine t p = record { component = p .component; i = nodeOn t 0 (p .i); j = nodeOn t 1 (p .j); k = nodeOn t 2 (p .k) }
 
--- the fine edge at place m along
-unfoldable pub fineEdge : TwoLevels → Position → ℕ → ℕ
-fineEdge t p m = indexOf (fineGrid t) (movedTo (onFine t p) (p .component) m)
+-- the edge at place m along the component of p, and n of them from the first on, by rising place
+unfoldable pub edgeAlong : Grid3d → Position → ℕ → ℕ
+edgeAlong g p m = indexOf g (movedTo p (p .component) m)
 
--- the fine edges in a coarse edge's cell, by rising place
+unfoldable pub edgesAlong : Grid3d → Position → ℕ → ℕ → List ℕ
+edgesAlong g p first n = tabulate (edgeAlong g p) n first
+
+-- the fine edges in a coarse edge's cell
 unfoldable pub cellEdges : TwoLevels → Position → List ℕ
 cellEdges t p =
-    tabulate (fineEdge t p)
-    (nodeOn t (p .component) (placeOn p (p .component) + 1) - nodeOn t (p .component) (placeOn p (p .component)))
+    edgesAlong (fineGrid t) (onFine t p)
     (nodeOn t (p .component) (placeOn p (p .component)))
+    (nodeOn t (p .component) (placeOn p (p .component) + 1) - nodeOn t (p .component) (placeOn p (p .component)))
 
 -- the positions that the permittivity of coarse edge r reads
 unfoldable pub epsReads : TwoLevels → ℕ → List ℕ

@@ -1,8 +1,8 @@
 -- Interpolation along one axis (docs/SPECIFICATION.md, 7): which coarse values a fine place takes (structure), and with which weights (numbers).
 -- A value is along the axis or across it (the component's role there). Places are half-steps of the finest grid.
 -- Assumes nothing.
-use Prim.Native.Nat.{ℕ, zero, suc, _+_, _-_}
-use mathlib.Core.Bool.{Bool, true, false, not, _&&_, _||_, cond}
+use Prim.Native.Nat.{ℕ, suc, _+_, _-_}
+use mathlib.Core.Bool.{Bool, _&&_, _||_, cond}
 use mathlib.Core.List.{List, [], _∷_, _++_}
 use lib.Dec.{eqb, leb}
 use lib.ListN.{length, getD}

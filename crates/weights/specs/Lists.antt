@@ -32,11 +32,6 @@ pub record Laid {L A : Type 0} (put : L → ℕ → A → L) (xs : L) (k : ℕ) 
   pub list : ys ≡ laidBy put xs k vs
   pub next : r ≡ k + length vs
 
--- n places of a list from place k on, as `get` reads them
-unfoldable pub readBy : {L A : Type 0} → (L → ℕ → A) → L → ℕ → ℕ → List A
-readBy get xs k zero = []
-readBy get xs k (suc n) = get xs k ∷ readBy get xs (suc k) n
-
 -- every number is finite
 unfoldable pub allFinite : List C64 → Bool
 allFinite [] = true

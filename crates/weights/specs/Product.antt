@@ -8,16 +8,17 @@ use lib.Dec.{eqb}
 use lib.ListN.{length}
 use Rattle.numbers.specs.declared.C64.{C64}
 use Rattle.numbers.specs.Complex.{product}
+use Rattle.lattice.specs.declared.grid.Grid3d.{Grid3d}
 use Rattle.lattice.specs.declared.grid.Position.{Position}
 use Rattle.lattice.specs.Grid.{indexOf}
-use Rattle.lattice.specs.Lattice.{edgesOf, isWall}
+use Rattle.lattice.specs.Lattice.{Medium, edgesOf, isWall}
 use Rattle.lattice.specs.Terms.{Term, each}
 use Rattle.weights.specs.TwoLevels.{TwoLevels, coarseGrid}
 use Rattle.weights.specs.Prolongation.{axisPlaces, axisTerms, isAlong, edgeAt, weightAt}
 
 -- on a wall axis a component across it is fixed at place 0
-unfoldable pub walled : TwoLevels → ℕ → Bool → Bool
-walled t a along = not along && isWall (edgesOf (t .base) a)
+unfoldable pub walled : Medium → ℕ → Bool → Bool
+walled l a along = not along && isWall (edgesOf l a)
 
 -- some places, and some terms, without place 0 where it is fixed
 unfoldable pub keptPlaces : Bool → List ℕ → List ℕ
@@ -30,18 +31,18 @@ keptTerms wall (t ∷ ts) = cond (wall && eqb (t .column) 0) (keptTerms wall ts)
 
 -- what place i takes of axis a: nothing if it is fixed itself
 unfoldable pub freePlaces : TwoLevels → ℕ → Bool → ℕ → List ℕ
-freePlaces t a along i = cond (walled t a along && eqb i 0) [] (keptPlaces (walled t a along) (axisPlaces t a along i))
+freePlaces t a along i = cond (walled (t .base) a along && eqb i 0) [] (keptPlaces (walled (t .base) a along) (axisPlaces t a along i))
 
 unfoldable pub freeTerms : TwoLevels → ℕ → Bool → ℕ → List Term
-freeTerms t a along i = cond (walled t a along && eqb i 0) [] (keptTerms (walled t a along) (axisTerms t a along i))
+freeTerms t a along i = cond (walled (t .base) a along && eqb i 0) [] (keptTerms (walled (t .base) a along) (axisTerms t a along i))
 
 -- ---- the products
 
-unfoldable pub columnOf : TwoLevels → Position → ℕ → ℕ → ℕ → List ℕ
-columnOf t p i j k = indexOf (coarseGrid t) (edgeAt p i j k) ∷ []
+unfoldable pub columnIn : Grid3d → Position → ℕ → ℕ → ℕ → List ℕ
+columnIn g p i j k = indexOf g (edgeAt p i j k) ∷ []
 
 unfoldable pub productZ : TwoLevels → Position → ℕ → ℕ → List ℕ
-productZ t p i j = each (columnOf t p i j) (freePlaces t 2 (isAlong p 2) (p .k))
+productZ t p i j = each (columnIn (coarseGrid t) p i j) (freePlaces t 2 (isAlong p 2) (p .k))
 
 unfoldable pub productY : TwoLevels → Position → ℕ → List ℕ
 productY t p i = each (productZ t p i) (freePlaces t 1 (isAlong p 1) (p .j))

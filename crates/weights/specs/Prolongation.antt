@@ -56,18 +56,19 @@ readEdge t p i j k = indexOf (fineGrid t) (edgeAt p (readPlace t p 0 i) (readPla
 unfoldable pub columnAt : TwoLevels → Position → ℕ → ℕ → ℕ → List ℕ
 columnAt t p i j k = cond (fixedAt (coarseLattice t) (edgeAt p i j k)) [] (indexOf (coarseGrid t) (edgeAt p i j k) ∷ [])
 
-unfoldable pub columnsZ : TwoLevels → Position → ℕ → ℕ → List ℕ
-columnsZ t p i j = each (columnAt t p i j) (axisPlaces t 2 (isAlong p 2) (p .k))
+-- what h gives for each triple of coarse places that a position takes, axis x outermost
+unfoldable pub nestZ : {A : Type 0} → TwoLevels → Position → (ℕ → ℕ → ℕ → List A) → ℕ → ℕ → List A
+nestZ t p h i j = each (h i j) (axisPlaces t 2 (isAlong p 2) (p .k))
 
-unfoldable pub columnsY : TwoLevels → Position → ℕ → List ℕ
-columnsY t p i = each (columnsZ t p i) (axisPlaces t 1 (isAlong p 1) (p .j))
+unfoldable pub nestY : {A : Type 0} → TwoLevels → Position → (ℕ → ℕ → ℕ → List A) → ℕ → List A
+nestY t p h i = each (nestZ t p h i) (axisPlaces t 1 (isAlong p 1) (p .j))
 
-unfoldable pub columnsX : TwoLevels → Position → List ℕ
-columnsX t p = each (columnsY t p) (axisPlaces t 0 (isAlong p 0) (p .i))
+unfoldable pub nest : {A : Type 0} → TwoLevels → Position → (ℕ → ℕ → ℕ → List A) → List A
+nest t p h = each (nestY t p h) (axisPlaces t 0 (isAlong p 0) (p .i))
 
 -- the columns of row r, in the order pushed; a fixed fine edge has none
 unfoldable pub weightColumns : TwoLevels → ℕ → List ℕ
-weightColumns t r = cond (fixedAt (fineLattice t) (atOf (fineGrid t) r)) [] (columnsX t (atOf (fineGrid t) r))
+weightColumns t r = cond (fixedAt (fineLattice t) (atOf (fineGrid t) r)) [] (nest t (atOf (fineGrid t) r) (columnAt t (atOf (fineGrid t) r)))
 
 -- ---- numbers
 
@@ -102,17 +103,8 @@ unfoldable pub weightNumbers : TwoLevels → (ℕ → C64) → (ℕ → C64) →
 weightNumbers t f g r = numbersOf (prolongationRow t f g r)
 
 -- the edges of the fine level whose permittivities row r reads, one for each column; of the coarse level it reads those of its columns
-unfoldable pub readsZ : TwoLevels → Position → ℕ → ℕ → ℕ → List ℕ
-readsZ t p i j k = cond (fixedAt (coarseLattice t) (edgeAt p i j k)) [] (readEdge t p i j k ∷ [])
-
-unfoldable pub readsY : TwoLevels → Position → ℕ → ℕ → List ℕ
-readsY t p i j = each (readsZ t p i j) (axisPlaces t 2 (isAlong p 2) (p .k))
-
-unfoldable pub readsX : TwoLevels → Position → ℕ → List ℕ
-readsX t p i = each (readsY t p i) (axisPlaces t 1 (isAlong p 1) (p .j))
+unfoldable pub readAt : TwoLevels → Position → ℕ → ℕ → ℕ → List ℕ
+readAt t p i j k = cond (fixedAt (coarseLattice t) (edgeAt p i j k)) [] (readEdge t p i j k ∷ [])
 
 unfoldable pub weightReads : TwoLevels → ℕ → List ℕ
-weightReads t r =
-    cond (fixedAt (fineLattice t) (atOf (fineGrid t) r))
-    []
-    (each (readsX t (atOf (fineGrid t) r)) (axisPlaces t 0 (isAlong (atOf (fineGrid t) r) 0) (atOf (fineGrid t) r .i)))
+weightReads t r = cond (fixedAt (fineLattice t) (atOf (fineGrid t) r)) [] (nest t (atOf (fineGrid t) r) (readAt t (atOf (fineGrid t) r)))

@@ -3,7 +3,7 @@
 -- Assumes nothing.
 use Prim.Native.Nat.{ℕ, zero, suc, _+_, _-_, _*_, _/_, _%_, _<_, _≤_, _^_}
 use mathlib.Core.Path.{_≡_}
-use mathlib.Core.Bool.{Bool, not, _&&_, cond}
+use mathlib.Core.Bool.{Bool, _&&_, cond}
 use mathlib.Core.List.{List, [], _∷_}
 use lib.Dec.{eqb, ltb}
 use lib.ListN.{length, getD}
@@ -14,18 +14,17 @@ use Rattle.numbers.specs.Places.{numberAt}
 use Rattle.lattice.specs.declared.grid.Grid3d.{Grid3d}
 use Rattle.lattice.specs.declared.grid.Position.{Position}
 use Rattle.lattice.specs.declared.levels.Three.{Three}
-use Rattle.lattice.specs.declared.line.Line.{Line}
 use Rattle.lattice.specs.Grid.{axis3, nOf, indexOf, atOf, unknownsOf, placeOn, movedTo, Limits, Inside}
 use Rattle.lattice.specs.Line.{endsOf, placeOf, Held, Rises}
 use Rattle.lattice.specs.Stretched.{acrossMap, alongMap}
-use Rattle.lattice.specs.Lattice.{Medium, tabulate, edgesOf, isWall}
+use Rattle.lattice.specs.Lattice.{Medium, tabulate, edgesOf}
 use Rattle.lattice.specs.Terms.{Term, each}
-use Rattle.weights.specs.TwoLevels.{TwoLevels, fineLine, fineCells, coarseCells, coarseLine, nodeOn, twoOf, fineGrid, coarseGrid}
+use Rattle.weights.specs.TwoLevels.{TwoLevels, fineCells, coarseCells, nodeOn, twoOf, fineGrid, coarseGrid}
 use Rattle.weights.specs.Prolongation.{isAlong, edgeAt}
 use Rattle.weights.specs.Transfer.{numbersOf}
-use Rattle.weights.specs.CoarseEps.{harmonic}
+use Rattle.weights.specs.CoarseEps.{edgesAlong, harmonic}
 use Rattle.weights.specs.Interpolate.{takenPlaces, interpolated}
-use Rattle.weights.specs.Product.{keptPlaces, keptTerms, freePlaces, freeTerms}
+use Rattle.weights.specs.Product.{walled, columnIn, keptPlaces, keptTerms, freePlaces, freeTerms}
 use Rattle.weights.specs.declared.interpolate.Spots.{Spots}
 use Rattle.weights.specs.declared.interpolate.Pulls.{Pulls}
 use Rattle.weights.specs.declared.rows.Pull.{Pull}
@@ -119,20 +118,21 @@ pub record Paired (l : Medium) (fine coarse : Three) : Type 0 where
 
 -- ---- rows from the lists: places ps, fine places ds, counts ns, weights xs
 
-unfoldable pub placesIn : List ℕ → ℕ → ℕ → List ℕ
-placesIn ps e zero = []
-placesIn ps e (suc n) = getD ps e 0 ∷ placesIn ps (suc e) n
+abbrev pub entryAt : List ℕ → ℕ → ℕ
+entryAt ps e = getD ps e 0
 
-unfoldable pub pullsIn : List ℕ → List ℕ → List Float → ℕ → ℕ → List Pull
-pullsIn ps ds xs e zero = []
-pullsIn ps ds xs e (suc n) = record { place = getD ps e 0; node = getD ds e 0; weight = numberAt xs e } ∷ pullsIn ps ds xs (suc e) n
+abbrev pub placesIn : List ℕ → ℕ → ℕ → List ℕ
+placesIn ps e n = tabulate (entryAt ps) n e
+
+abbrev pub pullIn : List ℕ → List ℕ → List Float → ℕ → Pull
+pullIn ps ds xs e = record { place = getD ps e 0; node = getD ds e 0; weight = numberAt xs e }
+
+abbrev pub pullsIn : List ℕ → List ℕ → List Float → ℕ → ℕ → List Pull
+pullsIn ps ds xs e n = tabulate (pullIn ps ds xs) n e
 
 -- the slot of a position on an axis
 unfoldable pub slotOn : Position → ℕ → ℕ → ℕ
 slotOn p a i = slotOf a (isAlong p a) i
-
-unfoldable pub columnIn : Grid3d → Position → ℕ → ℕ → ℕ → List ℕ
-columnIn g p i j k = indexOf g (edgeAt p i j k) ∷ []
 
 unfoldable pub columnsInZ : Grid3d → List ℕ → List ℕ → Position → ℕ → ℕ → List ℕ
 columnsInZ g ps ns p i j = each (columnIn g p i j) (placesIn ps (2 * slotOn p 2 (p .k)) (getD ns (slotOn p 2 (p .k)) 0))
@@ -235,7 +235,7 @@ pullList s =
 
 -- a component across a wall axis is fixed at place 0
 unfoldable pub slotWall : Medium → ℕ → Bool
-slotWall l q = not (slotAlong q) && isWall (edgesOf l (slotAxis q))
+slotWall l q = walled l (slotAxis q) (slotAlong q)
 
 -- the coarse values' places of a slot's axis and role
 unfoldable pub slotBlock : Grid3d → List ℕ → ℕ → List ℕ
@@ -291,13 +291,6 @@ pub record EndsOf (es : List ℕ) : Type 0 where
 unfoldable pub onFineIn : List ℕ → Position → Position
 onFineIn nn p = record { component = p .component; i = getD nn (p .i) 0; j = getD nn (65 + p .j) 0; k = getD nn (130 + p .k) 0 }
 
--- the edge at place m along the component of p, and n of them from the first on
-unfoldable pub edgeAlong : Grid3d → Position → ℕ → ℕ
-edgeAlong g p m = indexOf g (movedTo p (p .component) m)
-
-unfoldable pub cellEdgesIn : Grid3d → Position → ℕ → ℕ → List ℕ
-cellEdgesIn g p first n = tabulate (edgeAlong g p) n first
-
 -- the nodes at the two ends of the cell of a position
 unfoldable pub cellFirst : List ℕ → Position → ℕ
 cellFirst nn p = getD nn (65 * p .component + placeOn p (p .component)) 0
@@ -307,7 +300,7 @@ cellLast nn p = getD nn (65 * p .component + placeOn p (p .component) + 1) 0
 
 unfoldable pub coarseEpsIn : Grid3d → Grid3d → List ℕ → (ℕ → C64) → ℕ → C64
 coarseEpsIn gf gc nn f r =
-    harmonic f (cellEdgesIn gf (onFineIn nn (atOf gc r)) (cellFirst nn (atOf gc r)) (cellLast nn (atOf gc r) - cellFirst nn (atOf gc r)))
+    harmonic f (edgesAlong gf (onFineIn nn (atOf gc r)) (cellFirst nn (atOf gc r)) (cellLast nn (atOf gc r) - cellFirst nn (atOf gc r)))
 
 -- the places up to `last` along the component of p, and p itself across it, lie in the grid
 pub record LineInside (g : Grid3d) (p : Position) (last : ℕ) : Type 0 where

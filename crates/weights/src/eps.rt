@@ -12,8 +12,8 @@ ghost use Rattle.lattice.specs.Lattice.{medium, tabulate};
 ghost use Rattle.lattice.specs.Rows.{summed};
 ghost use Rattle.weights.specs.Lists.{laidNumbers, allFinite};
 ghost use Rattle.weights.specs.TwoLevels.{fineGrid, coarseGrid, twoOf};
-ghost use Rattle.weights.specs.CoarseEps.{inverted, coarseEps};
-ghost use Rattle.weights.specs.Tables.{Paired, readFrom, NestedIn, ChainRoom, LineInside, onFineIn, cellEdgesIn, coarseEpsIn};
+ghost use Rattle.weights.specs.CoarseEps.{edgesAlong, inverted, coarseEps};
+ghost use Rattle.weights.specs.Tables.{Paired, readFrom, NestedIn, ChainRoom, LineInside, onFineIn, coarseEpsIn};
 use crate::lists;
 use crate::tables;
 use lattice::grid;
@@ -41,7 +41,7 @@ fn on_fine(nn: &[usize], p: Position) -> Position
 }
 
 // The sum of the inverses of the permittivities at places first to last - 1 along the component of p, from +0.
-fn sum_of_inverses(
+pub fn sum_of_inverses(
     gf: Grid3d,
     eps: &[f64],
     from: usize,
@@ -52,7 +52,7 @@ fn sum_of_inverses(
     requires { ⌜ Limits gf ⌝ }
     requires { ⌜ (from ≤ 2 ^ 32) × (2 * (from + unknownsOf gf) ≤ length (now eps)) ⌝ }
     requires { ⌜ LineInside gf p last ⌝ }
-    ensures { λ r. ⌜ r ≡ summed (inverted (readFrom (now (eps .entry)) from)) zeroNumber (cellEdgesIn gf p first (last - first)) ⌝ }
+    ensures { λ r. ⌜ r ≡ summed (inverted (readFrom (now (eps .entry)) from)) zeroNumber (edgesAlong gf p first (last - first)) ⌝ }
 {
     let mut sum = numbers::zero();
     for m in first..last {

@@ -5,7 +5,8 @@ ghost use mathlib.Core.List.{[], _∷_};
 ghost use Prim.Native.Nat.{_+_, _*_, _<_, _≤_, _^_};
 ghost use lib.ListN.{length, set};
 ghost use Rattle.numbers.specs.Places.{setNumber, numberAt};
-ghost use Rattle.weights.specs.Lists.{Laid, readBy, allFinite};
+ghost use Rattle.lattice.specs.Lattice.{tabulate};
+ghost use Rattle.weights.specs.Lists.{Laid, allFinite};
 use numbers::C64;
 
 // A whole number at place k; past the list's end it is left out. The place behind it.
@@ -31,7 +32,7 @@ pub fn push_number(list: &mut [f64], k: usize, v: C64) -> usize
 // Whether the n numbers from place k on are finite. `requires`: the list has them.
 pub fn finite_numbers(list: &[f64], k: usize, n: usize) -> bool
     requires { ⌜ (k + n < 2 ^ 40) × (2 * (k + n) ≤ length (now list)) ⌝ }
-    ensures { λ r. ⌜ r ≡ allFinite (readBy numberAt (now (list .entry)) k n) ⌝ }
+    ensures { λ r. ⌜ r ≡ allFinite (tabulate (numberAt (now (list .entry))) n k) ⌝ }
 {
     for m in 0..n {
         if !numbers::is_finite(numbers::get(list, k + m)) {

@@ -32,7 +32,7 @@ use Rattle.weights.specs.Tables.{Paired, readFrom}
 use Rattle.weights.specs.Lists.{laidNumbers}
 use Rattle.weights.specs.Whole.{epsOf, fineEdges, coarseEdges, weightsIn, WholeRoom, WholeLeft, wholeFinite}
 use Rattle.weights.specs.declared.whole.Offsets.{Offsets}
-use Rattle.weights.proofs.EpsLaws.{fine-is, coarse-is}
+use Rattle.weights.proofs.TwoLevelLaws.{fine-grid, coarse-grid}
 use Rattle.weights.proofs.PairLaws.{paired-at, two-at}
 use Rattle.weights_c.specs.Exports.{Lent, Left, partShort, shortBy, shortOf, laidBy, doneAt, transferLeft, levelLeft, checkedLeft, exportLeft, Leaves, nothing, threeFrom}
 
@@ -106,10 +106,10 @@ module _ {l : Medium} {fine coarse : Three} (d : Paired l fine coarse) where
   two = twoOf l fine coarse
 
   pub fine-edges : {g : Grid3d} {n : ℕ} → g ≡ gridWith (l .grid) (fine .x .cells) (fine .y .cells) (fine .z .cells) → n ≡ unknownsOf g → n ≡ fineEdges two
-  fine-edges e q = q ∙ ap unknownsOf (e ∙ fine-is l fine coarse (d .fine-held))
+  fine-edges e q = q ∙ ap unknownsOf (e ∙ fine-grid l fine coarse (d .fine-held))
 
   pub coarse-edges : {g : Grid3d} {n : ℕ} → g ≡ gridWith (l .grid) (coarse .x .cells) (coarse .y .cells) (coarse .z .cells) → n ≡ unknownsOf g → n ≡ coarseEdges two
-  coarse-edges e q = q ∙ ap unknownsOf (e ∙ coarse-is l fine coarse (d .coarse-held))
+  coarse-edges e q = q ∙ ap unknownsOf (e ∙ coarse-grid l fine coarse (d .coarse-held))
 
   pub few : {n m : ℕ} → n ≡ fineEdges two → m ≡ coarseEdges two → (n ≤ 12288) × (m ≤ 12288)
   few en em = (omega (arith, en, unknowns-most (d .fine-limits)), omega (arith, em, unknowns-most (d .coarse-limits)))

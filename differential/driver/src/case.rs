@@ -14,8 +14,9 @@ pub struct Case {
     pub coarsest: usize,
     // how much longer than needed each list is that is lent for results, in doubles or words
     pub room: [i64; 8],
-    // whether the rows are compared too
+    // whether the rows are compared too, and the operators
     pub rows: bool,
+    pub operators: bool,
 }
 
 impl Case {
@@ -30,6 +31,7 @@ impl Case {
             coarsest: 0,
             room: [0; 8],
             rows: true,
+            operators: true,
         }
     }
 

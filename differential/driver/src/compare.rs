@@ -1,7 +1,7 @@
 // One input on both sides, bit for bit. Two NaNs count as equal.
 
 use crate::case::Case;
-use crate::{norm, ours, table, transfers};
+use crate::{norm, operators, ours, table, transfers};
 use num_complex::Complex64 as c64;
 use source::{Line, Options, Stretched};
 
@@ -22,6 +22,7 @@ pub struct Counts {
     pub refusals: [u64; 6],
     pub norm: norm::Departures,
     pub transfers: transfers::Counts,
+    pub operators: operators::Counts,
 }
 
 // What lies in a lent list before the call, and behind its end.
@@ -51,11 +52,11 @@ pub fn numbers_after(length: usize, given: &[c64]) -> Vec<f64> {
     out
 }
 
-fn same(a: f64, b: f64) -> bool {
+pub fn same(a: f64, b: f64) -> bool {
     a.to_bits() == b.to_bits() || (a.is_nan() && b.is_nan())
 }
 
-fn shown(x: f64) -> String {
+pub fn shown(x: f64) -> String {
     format!("{x:?} ({:016x})", x.to_bits())
 }
 
@@ -89,6 +90,9 @@ pub fn compare(c: &Case, counts: &mut Counts) -> Result<(), String> {
         compare_in(c, c.room, &mut others)?;
         counts.other_lengths += 1;
         counts.transfers.short += others.transfers.short;
+    }
+    if c.operators {
+        operators::operators(c, &mut counts.operators)?;
     }
     Ok(())
 }

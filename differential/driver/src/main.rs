@@ -1,8 +1,8 @@
-// The lattice layer against the Rust that it was carried over from. Prints what was equal; the first departure ends the
-// run with status 1.
+// The layers against the Rust that they were carried over from. Prints what was equal; the first departure ends the run
+// with status 1.
 //
 //     differential [SEED [LATTICES]]
-//     differential bench NAME
+//     differential bench NAME [CELLS CHOICE]
 
 mod bench;
 mod case;
@@ -10,6 +10,7 @@ mod compare;
 mod generate;
 mod norm;
 mod numbers;
+mod operators;
 mod ours;
 mod random;
 mod shrink;
@@ -58,7 +59,7 @@ impl Run {
                     c.set_kind(axis, bloch[axis]);
                 }
                 self.one("small lattices", &c)?;
-                c.rows = false;
+                (c.rows, c.operators) = (false, false);
                 for coarsest in 1..3 * c.total() + 2 {
                     c.coarsest = coarsest;
                     self.again("small lattices", &c)?;
@@ -84,8 +85,9 @@ impl Run {
             };
             let bloch = generate::kinds(&mut self.random);
             let mut c = generate::filled(&mut self.random, cells, bloch);
-            // the rows of every tenth large lattice
+            // the rows of every tenth large lattice, the operators of every third
             c.rows = k % 500 > 1 || k / 500 % 10 == 0;
+            c.operators = k % 500 > 1 || k / 500 % 3 == 0;
             self.one("random lattices", &c)?;
         }
         Ok(())
@@ -136,7 +138,7 @@ impl Run {
         }
         for cells in [[64, 64, 1], [64, 64, 2], [16, 16, 16], [17, 16, 16], [64, 1, 64], [63, 65, 1], [65, 63, 1]] {
             let mut c = Case::plain(cells);
-            c.rows = false;
+            (c.rows, c.operators) = (false, false);
             self.one("refusals", &c)?;
         }
         for _ in 0..lattices {
@@ -170,6 +172,7 @@ impl Run {
                     return Err(format!("{n} cells that double in length: {answer:?} levels"));
                 }
                 self.one("deep lines", &c)?;
+                c.operators = false;
                 for coarsest in (1..3 * n + 2).step_by(if n > 16 { 7 } else { 1 }) {
                     c.coarsest = coarsest;
                     self.again("deep lines", &c)?;
@@ -220,8 +223,28 @@ fn report(lattices: u64, c: &Counts, near: &norm::Departures) {
         t.transfers, t.rows, t.short, t.no_number, t.none);
     println!("weights   {:>12}   forward and turned; {} coarse permittivities; {} of these numbers not finite",
         t.weights, t.permittivities, t.not_finite);
+    operators_report(&c.operators);
     departures("of the lines above", &c.norm);
     departures("of lines near the limit", near);
+}
+
+fn operators_report(o: &operators::Counts) {
+    if !ours::OPERATORS {
+        println!("operators              -   no library of this layer");
+        return;
+    }
+    for choice in 0..2 {
+        println!("{} {:>8}   setups, {} levels; {} operator rows, {} entries, {} of them not finite", ["Galerkin     ", "rediscretized"][choice],
+            o.setups[choice], o.levels[choice], o.rows[choice], o.entries[choice], o.not_finite[choice]);
+    }
+    println!("          {} of these setups of a single level, {} refused, {} done again in exactly full lists; {} Galerkin levels over stored rows, {} untouched diagonals",
+        o.single, o.refused, o.exact, o.stored, o.untouched);
+    println!("          {} with a shift; {}, {} and {} with a Bloch axis of 1, 2 and 3 cells on some level and a phase of modulus other than 1",
+        o.shifted, o.wrapped[0], o.wrapped[1], o.wrapped[2]);
+    println!("patterns  {:>12}   rows, of all levels", o.patterns);
+    println!("averaged  {:>12}   permittivities", o.averaged);
+    println!("volumes   {:>12}", o.volumes);
+    println!("shares    {:>12}   inverse; {} of a zero share; {} more left out, the share not finite", o.shares - o.left_out, o.zero_shares, o.left_out);
 }
 
 fn departures(of: &str, d: &norm::Departures) {
@@ -238,7 +261,10 @@ fn departures(of: &str, d: &norm::Departures) {
 fn main() {
     let args: Vec<String> = std::env::args().skip(1).collect();
     let told = if args.first().is_some_and(|a| a == "bench") {
-        bench::run(args.get(1).map_or("", |a| a.as_str()))
+        match args.len() {
+            4 => bench::setup(&args[1], &args[2], &args[3]),
+            _ => bench::run(args.get(1).map_or("", |a| a.as_str())),
+        }
     } else {
         let number = |k: usize, otherwise: u64| args.get(k).map_or(otherwise, |a| a.parse().expect("a number"));
         let (seed, lattices) = (number(0, 1), number(1, 100_000));

@@ -22,7 +22,9 @@ coordinate-requires c κs =
     (s .pre .0, first-wrapped (s .args .places .now) (s .args .from) _ _ (s .pre .1 .1 .0 .0) (s .pre .1 .1 .0 .1) (s .pre .1 .1 .1))
 
 returns : tie.Need-returns
-returns c = c .coordinate .ensures ∙ high-wrapped _ _ _ _ _ _ _ (c .before .before .if1 .taken) (c .before .before .before .before .before .pre .1 .1 .0 .0)
+returns c =
+    let s = c .before .before .before .before .before in
+    c .coordinate .ensures ∙ high-wrapped _ _ (s .args .places .now) (s .args .from) _ (s .args .period) _ (c .before .before .if1 .taken) (s .pre .1 .1 .0 .0)
 
 add-coordinate-2 : tie.Need-add-coordinate-2
 add-coordinate-2 c = search needs
@@ -40,7 +42,9 @@ coordinate-requires-2 c κs = (
 )
 
 returns-2 : tie.Need-returns-2
-returns-2 c = c .coordinate2 .ensures ∙ high-inside _ _ _ _ _ _ _ (c .before .before .if1 .left)
+returns-2 c =
+    let s = c .before .before .before .before .before in
+    c .coordinate2 .ensures ∙ high-inside _ _ (s .args .places .now) (s .args .from) _ (s .args .period) _ (c .before .before .if1 .left)
 
 pub high-coordinate-spec : {M : Type 1} → statement M
 high-coordinate-spec =

@@ -35,7 +35,8 @@ kept-pulls-requires c κs = search needs
 
 returns : tie.Need-returns
 returns c =
-    interpolate-is _ _ _ _ _ _ _ _ _ (c .before .before .before .before .rule-of .ensures) (c .before .before .before .up-to .ensures .0)
+    let s = c .before .before .before .before .before .before .before in
+    interpolate-is _ _ (s .args .places .now) (s .args .from) _ (s .args .period) (s .args .along) (s .args .p) _ (c .before .before .before .before .rule-of .ensures) (c .before .before .before .up-to .ensures .0)
     (c .before .before .ratio-at .ensures) (c .before .rule-pulls .ensures) (c .kept-pulls .ensures)
 
 pub interpolate-spec : {M : Type 1} → statement M

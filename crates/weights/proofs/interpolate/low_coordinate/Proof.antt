@@ -27,7 +27,9 @@ int-to-float-t16 : tie.Need-int-to-float-t16
 int-to-float-t16 c = place-float _ (omega arith)
 
 returns : tie.Need-returns
-returns c = low-wrapped _ _ _ _ _ _ _ (c .before .before .before .if1 .taken) (c .before .before .before .before .before .before .pre .1 .1 .0 .0)
+returns c =
+    let s = c .before .before .before .before .before .before in
+    low-wrapped _ _ (s .args .places .now) (s .args .from) _ (s .args .period) _ (c .before .before .before .if1 .taken) (s .pre .1 .1 .0 .0)
 
 sub-coordinate : tie.Need-sub-coordinate
 sub-coordinate c = search needs
@@ -48,7 +50,10 @@ coordinate-requires c κs = (
 )
 
 returns-2 : tie.Need-returns-2
-returns-2 c = c .coordinate .ensures ∙ low-inside _ _ _ _ _ _ _ (c .before .before .if1 .left) (c .before .before .before .before .before .pre .1 .1 .1 .1)
+returns-2 c =
+    let s = c .before .before .before .before .before in
+    c .coordinate .ensures
+    ∙ low-inside _ _ (s .args .places .now) (s .args .from) _ (s .args .period) _ (c .before .before .if1 .left) (s .pre .1 .1 .1 .1)
 
 pub low-coordinate-spec : {M : Type 1} → statement M
 low-coordinate-spec =

@@ -19,7 +19,9 @@ shared-slice-read-result : tie.Need-shared-slice-read-result
 shared-slice-read-result c = search needs
 
 returns-2 : tie.Need-returns-2
-returns-2 c = meets-last _ _ _ _ _ (c .before .if1 .left) (c .before .before .pre .1)
+returns-2 c =
+    let s = c .before .before in
+    meets-last (s .args .places .now) (s .args .from) _ (s .args .p) _ (c .before .if1 .left) (s .pre .1)
 
 pub meets-spec : {M : Type 1} → statement M
 meets-spec =

@@ -16,7 +16,9 @@ rule-by-requires : tie.Need-rule-by-requires
 rule-by-requires c κs = search needs
 
 returns : tie.Need-returns
-returns c = rule-is _ _ _ _ _ _ (c .before .before .before .up-to .ensures .0) (c .before .before .meets .ensures) (c .before .is-wall .ensures) (c .rule-by .ensures)
+returns c =
+    let s = c .before .before .before .before .before in
+    rule-is _ (s .args .places .now) (s .args .from) _ _ (s .args .p) (c .before .before .before .up-to .ensures .0) (c .before .before .meets .ensures) (c .before .is-wall .ensures) (c .rule-by .ensures)
 
 pub rule-of-spec : {M : Type 1} → statement M
 rule-of-spec =

@@ -13,7 +13,9 @@ kept-spots-requires : tie.Need-kept-spots-requires
 kept-spots-requires c κs = search needs
 
 returns : tie.Need-returns
-returns c = taken-is _ _ _ _ _ _ _ (c .before .before .rule-of .ensures) (c .before .rule-spots .ensures) (c .kept-spots .ensures)
+returns c =
+    let s = c .before .before .before .before in
+    taken-is _ (s .args .places .now) (s .args .from) _ (s .args .along) (s .args .p) _ (c .before .before .rule-of .ensures) (c .before .rule-spots .ensures) (c .kept-spots .ensures)
 
 pub taken-spec : {M : Type 1} → statement M
 taken-spec = tie.close (tie.spec rule-of-requires rule-spots-requires kept-spots-requires returns)

@@ -5,7 +5,8 @@ use native.Mathlib.Omega.{arith}
 use lib.ListN.{set}
 use Rattle.lattice.specs.Grid.{axis3, nOf}
 use Rattle.weights.specs.Prolongation.{edgeAt}
-use Rattle.weights.specs.Tables.{columnIn, columnsInZ}
+use Rattle.weights.specs.Product.{columnIn}
+use Rattle.weights.specs.Tables.{columnsInZ}
 use Rattle.weights.proofs.RowLaws.{AtSlot, slot-is, place-on, placeAt, slot-start, slot-turn, going-same, places-end, one-laid}
 use Rattle.weights.proofs.rows.columns_z.Statement.{statement}
 use Rattle.weights.proofs.rows.columns_z.Tie as tie

@@ -10,61 +10,53 @@ slot-on-requires c κs = search needs
 
 mul-x : tie.Need-mul-x
 mul-x c =
-    let p = c .before .before .args .p in
-    omega (arith, slot-is p 0 (p .i) (c .slot-on .ensures) (omega arith) (omega arith))
+    omega (arith, slot-is _ _ _ (c .slot-on .ensures) (omega arith) (omega arith))
 
 shared-slice-read-x : tie.Need-shared-slice-read-x
 shared-slice-read-x c =
-    let p = c .before .before .before .args .p in
-    omega (arith, slot-is p 0 (p .i) (c .before .slot-on .ensures) (omega arith) (omega arith))
+    omega (arith, slot-is _ _ _ (c .before .slot-on .ensures) (omega arith) (omega arith))
 
 slot-on-requires-2 : tie.Need-slot-on-requires-2
 slot-on-requires-2 c κs = search needs
 
 mul-y : tie.Need-mul-y
 mul-y c =
-    let p = c .before .before .before .before .args .p in
-    omega (arith, slot-is p 1 (p .j) (c .slot-on2 .ensures) (omega arith) (omega arith))
+    omega (arith, slot-is _ _ _ (c .slot-on2 .ensures) (omega arith) (omega arith))
 
 shared-slice-read-y : tie.Need-shared-slice-read-y
 shared-slice-read-y c =
-    let p = c .before .before .before .before .before .args .p in
-    omega (arith, slot-is p 1 (p .j) (c .before .slot-on2 .ensures) (omega arith) (omega arith))
+    omega (arith, slot-is _ _ _ (c .before .slot-on2 .ensures) (omega arith) (omega arith))
 
 slot-on-requires-3 : tie.Need-slot-on-requires-3
 slot-on-requires-3 c κs = search needs
 
 mul-z : tie.Need-mul-z
 mul-z c =
-    let p = c .before .before .before .before .before .before .args .p in
-    omega (arith, slot-is p 2 (p .k) (c .slot-on3 .ensures) (omega arith) (omega arith))
+    omega (arith, slot-is _ _ _ (c .slot-on3 .ensures) (omega arith) (omega arith))
 
 shared-slice-read-z : tie.Need-shared-slice-read-z
 shared-slice-read-z c =
-    let p = c .before .before .before .before .before .before .before .args .p in
-    omega (arith, slot-is p 2 (p .k) (c .before .slot-on3 .ensures) (omega arith) (omega arith))
+    omega (arith, slot-is _ _ _ (c .before .slot-on3 .ensures) (omega arith) (omega arith))
 
 mul-result : tie.Need-mul-result
 mul-result c =
-    let p = c .before .before .before .before .before .before .before .args .p in
     let f = c .before .before .before .before .before .before .before .pre .1 .0 in
     omega (
       arith,
       two-few
-          (f _ (slot-is p 0 (p .i) (c .before .before .before .before .before .slot-on .ensures) (omega arith) (omega arith) .below))
-          (f _ (slot-is p 1 (p .j) (c .before .before .before .slot-on2 .ensures) (omega arith) (omega arith) .below)),
+          (f _ (slot-is _ _ _ (c .before .before .before .before .before .slot-on .ensures) (omega arith) (omega arith) .below))
+          (f _ (slot-is _ _ _ (c .before .before .before .slot-on2 .ensures) (omega arith) (omega arith) .below)),
     )
 
 mul-result-2 : tie.Need-mul-result-2
 mul-result-2 c =
-    let p = c .before .before .before .before .before .before .before .args .p in
     let f = c .before .before .before .before .before .before .before .pre .1 .0 in
     omega (
       arith,
       three-few
-          (f _ (slot-is p 0 (p .i) (c .before .before .before .before .before .slot-on .ensures) (omega arith) (omega arith) .below))
-          (f _ (slot-is p 1 (p .j) (c .before .before .before .slot-on2 .ensures) (omega arith) (omega arith) .below))
-          (f _ (slot-is p 2 (p .k) (c .before .slot-on3 .ensures) (omega arith) (omega arith) .below)),
+          (f _ (slot-is _ _ _ (c .before .before .before .before .before .slot-on .ensures) (omega arith) (omega arith) .below))
+          (f _ (slot-is _ _ _ (c .before .before .before .slot-on2 .ensures) (omega arith) (omega arith) .below))
+          (f _ (slot-is _ _ _ (c .before .slot-on3 .ensures) (omega arith) (omega arith) .below)),
     )
 
 returns : tie.Need-returns

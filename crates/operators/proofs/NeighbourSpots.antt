@@ -1,0 +1,157 @@
+-- One axis: where a step of the lattice ends, and which places are held fixed; and a move along an axis as a relation of places.
+-- Assumes nothing.
+use Prim.Native.Nat.{ℕ, zero, suc, _+_, _-_, _<_}
+use mathlib.Core.Path.{_≡_, refl, sym, _∙_, ap}
+use mathlib.Core.Logic.{_⊎_, inl, inr, ⊎-elim}
+use mathlib.Core.Bool.{Bool, true, false, not, _&&_, _||_, cond, false≢true}
+use native.Mathlib.Omega.{arith}
+use borrow.Author.Tests.{eq-eqb, eqb-true, eqb-false, ltb-true, ltb-false, lt-ltb}
+use lib.Dec.{eqb, ltb}
+use Rattle.numbers.specs.declared.C64.{C64}
+use Rattle.numbers.specs.Complex.{oneNumber, conjugate}
+use Rattle.lattice.specs.declared.grid.Position.{Position}
+use Rattle.lattice.specs.declared.lattice.Edges.{Edges}
+use Rattle.lattice.specs.declared.lattice.Edges.the-variants.{Pml, Bloch}
+use Rattle.lattice.specs.declared.neighbours.Arrival.the-variants.{To}
+use Rattle.lattice.specs.Grid.{axis3, nOf, placeOn, movedTo, withComponent}
+use Rattle.lattice.specs.Lattice.{Medium, edgesOf, isWall}
+use Rattle.lattice.specs.Neighbours.{pastHigh, pastLow, shifted, onWall}
+use Rattle.lattice.proofs.NeighbourLaws.{shift-up, shift-high, shift-down, shift-low}
+use Rattle.operators.specs.Relation.{Rel, Cube, Times}
+use Rattle.operators.specs.Pattern.{across, roleOf}
+use Rattle.operators.specs.Base.{liveAt, follows}
+use Rattle.operators.specs.Relations0.{ahead, back, pick}
+use Rattle.operators.specs.Levels.{isBloch, spotOf}
+use Rattle.operators.proofs.RelationLaws.{both-and}
+use Rattle.operators.proofs.Level0.{or-left, or-right, next-of, ahead-cases, back-cases, ahead-same, ahead-next, back-same, back-next, live-along}
+
+-- ---- one step
+
+follows-on : (n : ℕ) (bloch : Bool) (i j : ℕ) → j ≡ i + 1 → i + 1 < n → follows n bloch i j ≡ true
+unfolding follows
+follows-on n bloch i j e h = or-left ((bloch && eqb (i + 1) n) && eqb j 0) (both-and (eq-eqb j (i + 1) e) (lt-ltb (i + 1) n h))
+
+follows-round : (n i j : ℕ) → i + 1 ≡ n → j ≡ 0 → follows n true i j ≡ true
+unfolding follows
+follows-round n i j e h = or-right (eqb j (i + 1) && ltb (i + 1) n) (both-and (eq-eqb (i + 1) n e) (eq-eqb j 0 h))
+
+module _ (e : Edges) (n m k : ℕ) (mine : m < n) where
+  up-follows : (w : C64) → shifted e n m true ≡ To k w → follows n (not (isWall e)) m k ≡ true
+  unfolding shifted
+  up-follows w q = go (ltb (m + 1) n) refl e q
+    where
+      go : (b : Bool) → ltb (m + 1) n ≡ b → (e : Edges) → cond b (To (m + 1) oneNumber) (pastHigh e) ≡ To k w → follows n (not (isWall e)) m k ≡ true
+      go true f e q = let z : m + 1 ≡ k = cc in follows-on n (not (isWall e)) m k (sym z) (ltb-true (m + 1) n f)
+      go false f Pml q = let z : _≡_ {A = ℕ} 0 1 = cc in absurd (omega arith)
+      go false f (Bloch re im) q = let z : 0 ≡ k = cc in follows-round n m k (omega (arith, ltb-false (m + 1) n f)) (sym z)
+
+  down-follows : (w : C64) → shifted e n m false ≡ To k w → follows n (not (isWall e)) k m ≡ true
+  unfolding shifted
+  down-follows w q = go (eqb m 0) refl e q
+    where
+      go : (b : Bool) → eqb m 0 ≡ b → (e : Edges) → cond b (pastLow e n) (To (m - 1) oneNumber) ≡ To k w → follows n (not (isWall e)) k m ≡ true
+      go true f Pml q = let z : _≡_ {A = ℕ} 0 1 = cc in absurd (omega arith)
+      go true f (Bloch re im) q = let z : n - 1 ≡ k = cc in follows-round n k m (omega arith) (eqb-true m 0 f)
+      go false f e q = let z : m - 1 ≡ k = cc in follows-on n (not (isWall e)) k m (omega (arith, eqb-false m 0 f)) (omega (arith, eqb-false m 0 f))
+
+  follows-up : follows n (not (isWall e)) m k ≡ true → (w : C64) × (shifted e n m true ≡ To k w)
+  follows-up h = ⊎-elim
+      (λ t. (oneNumber, sym (shift-up e n m true oneNumber refl (t .1) refl) ∙ ap (λ i. To i oneNumber) (sym (t .0))))
+      (λ t. go e (t .0) (sym (shift-high e n m true refl (omega (arith, t .1)))) (t .2))
+      (next-of n (not (isWall e)) m k h .how)
+    where
+      go : (d : Edges) → not (isWall d) ≡ true → shifted e n m true ≡ pastHigh d → k ≡ 0 → (w : C64) × (shifted e n m true ≡ To k w)
+      go Pml b q z = absurd (false≢true b)
+      go (Bloch re im) b q z = let v : C64 = record { re = re; im = im } in (v, q ∙ ap (λ i. To i v) (sym z))
+
+  follows-down : follows n (not (isWall e)) k m ≡ true → (w : C64) × (shifted e n m false ≡ To k w)
+  follows-down h = ⊎-elim
+      (λ t.
+      let z : m - 1 ≡ k = omega (arith, t .0) in
+      (oneNumber, sym (shift-down e n m false oneNumber refl (omega (arith, t .0)) refl) ∙ ap (λ i. To i oneNumber) z))
+      (λ t. go e (t .0) (sym (shift-low e n m false refl (t .2))) (t .1))
+      (next-of n (not (isWall e)) k m h .how)
+    where
+      go : (d : Edges) → not (isWall d) ≡ true → shifted e n m false ≡ pastLow d n → k + 1 ≡ n → (w : C64) × (shifted e n m false ≡ To k w)
+      go Pml b q z = absurd (false≢true b)
+      go (Bloch re im) b q z =
+          let v : C64 = conjugate (record { re = re; im = im }) in
+          let y : n - 1 ≡ k = omega arith in
+          (v, q ∙ ap (λ i. To i v) y)
+
+-- to the same place or to the next; or to the one before
+abbrev pub stepOn : Bool → ℕ → Bool → Rel
+stepOn true n bloch = ahead n bloch
+stepOn false n bloch = back n bloch
+
+pub step-none : (up : Bool) (n : ℕ) (bloch : Bool) (m : ℕ) → stepOn up n bloch m m ≡ true
+step-none true n bloch m = ahead-same n bloch m m refl
+step-none false n bloch m = back-same n bloch m m refl
+
+module _ (l : Medium) (a m k : ℕ) (mine : m < nOf (l .grid) a) where
+  pub shift-step : (up : Bool) (w : C64) → shifted (edgesOf l a) (nOf (l .grid) a) m up ≡ To k w → stepOn up (nOf (l .grid) a) (isBloch l a) m k ≡ true
+  unfolding isBloch
+  shift-step true w q = ahead-next (nOf (l .grid) a) (not (isWall (edgesOf l a))) m k (up-follows (edgesOf l a) (nOf (l .grid) a) m k mine w q)
+  shift-step false w q = back-next (nOf (l .grid) a) (not (isWall (edgesOf l a))) m k (down-follows (edgesOf l a) (nOf (l .grid) a) m k mine w q)
+
+  pub step-shift : (up : Bool) → stepOn up (nOf (l .grid) a) (isBloch l a) m k ≡ true → (m ≡ k) ⊎ ((w : C64) × (shifted (edgesOf l a) (nOf (l .grid) a) m up ≡ To k w))
+  unfolding isBloch
+  step-shift true h = ⊎-elim (λ e. inl e) (λ e. inr (follows-up (edgesOf l a) (nOf (l .grid) a) m k mine e)) (ahead-cases (nOf (l .grid) a) (not (isWall (edgesOf l a))) m k h)
+  step-shift false h = ⊎-elim (λ e. inl e) (λ e. inr (follows-down (edgesOf l a) (nOf (l .grid) a) m k mine e)) (back-cases (nOf (l .grid) a) (not (isWall (edgesOf l a))) m k h)
+
+-- ---- places that are held fixed
+
+-- a place across an axis is live unless it is on the axis's wall
+pub live-across : (l : Medium) (p : Position) (d : ℕ) → liveAt (isBloch l d) across (placeOn p d) ≡ not (onWall l p d)
+unfolding liveAt isBloch onWall
+live-across l p d = go (isWall (edgesOf l d)) (eqb (placeOn p d) 0)
+  where
+    go : (w z : Bool) → (not w || not z) ≡ not (z && w)
+    go true true = refl
+    go true false = refl
+    go false true = refl
+    go false false = refl
+
+-- an edge's place is live unless the axis is another and the place is on its wall
+pub live-role : (l : Medium) (p : Position) (own : Bool) (d : ℕ) → liveAt (isBloch l d) (roleOf own) (placeOn p d) ≡ not (not own && onWall l p d)
+live-role l p true d = live-along (isBloch l d) (placeOn p d)
+live-role l p false d = live-across l p d
+
+-- ---- moves along axis t
+
+-- on t a step up or down, and on the other axes the same place
+abbrev pub moveCube : Medium → Bool → ℕ → Cube
+moveCube l up t =
+    record {
+      x = pick (eqb 0 t) (stepOn up (nOf (l .grid) 0) (isBloch l 0)) eqb;
+      y = pick (eqb 1 t) (stepOn up (nOf (l .grid) 1) (isBloch l 1)) eqb;
+      z = pick (eqb 2 t) (stepOn up (nOf (l .grid) 2) (isBloch l 2)) eqb;
+    }
+
+-- what holds of the three axes holds of each axis
+pub low3 : (P : ℕ → Type 0) → P 0 → P 1 → P 2 → (a : ℕ) → a < 3 → P a
+low3 P x y z zero h = x
+low3 P x y z (suc zero) h = y
+low3 P x y z (suc (suc zero)) h = z
+low3 P x y z (suc (suc (suc n))) h = absurd (omega arith)
+
+module _ (l : Medium) (up : Bool) (p : Position) (f : ℕ) where
+  -- the position whose place on t is k, and whose component is f
+  pub moved-times : (t : ℕ) → t < 3 → (k : ℕ) → stepOn up (nOf (l .grid) t) (isBloch l t) (placeOn p t) k ≡ true
+      → Times (moveCube l up t) (spotOf p) (spotOf (movedTo (withComponent p f) t k))
+  unfolding placeOn movedTo withComponent axis3
+  moved-times = low3
+      (λ t. (k : ℕ) → stepOn up (nOf (l .grid) t) (isBloch l t) (placeOn p t) k ≡ true → Times (moveCube l up t) (spotOf p) (spotOf (movedTo (withComponent p f) t k)))
+      (λ k h. record { x = h; y = eq-eqb (p .j) (p .j) refl; z = eq-eqb (p .k) (p .k) refl })
+      (λ k h. record { x = eq-eqb (p .i) (p .i) refl; y = h; z = eq-eqb (p .k) (p .k) refl })
+      (λ k h. record { x = eq-eqb (p .i) (p .i) refl; y = eq-eqb (p .j) (p .j) refl; z = h })
+
+  pub times-moved : (q : Position) → q .component ≡ f → (t : ℕ) → t < 3 → Times (moveCube l up t) (spotOf p) (spotOf q)
+      → (stepOn up (nOf (l .grid) t) (isBloch l t) (placeOn p t) (placeOn q t) ≡ true) × (movedTo (withComponent p f) t (placeOn q t) ≡ q)
+  unfolding placeOn movedTo withComponent axis3
+  times-moved q c = low3
+      (λ t. Times (moveCube l up t) (spotOf p) (spotOf q)
+      → (stepOn up (nOf (l .grid) t) (isBloch l t) (placeOn p t) (placeOn q t) ≡ true) × (movedTo (withComponent p f) t (placeOn q t) ≡ q))
+      (λ h. (h .x, λ n. record { component = sym c n; i = q .i; j = eqb-true (p .j) (q .j) (h .y) n; k = eqb-true (p .k) (q .k) (h .z) n }))
+      (λ h. (h .y, λ n. record { component = sym c n; i = eqb-true (p .i) (q .i) (h .x) n; j = q .j; k = eqb-true (p .k) (q .k) (h .z) n }))
+      (λ h. (h .z, λ n. record { component = sym c n; i = eqb-true (p .i) (q .i) (h .x) n; j = eqb-true (p .j) (q .j) (h .y) n; k = q .k }))

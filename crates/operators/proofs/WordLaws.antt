@@ -1,0 +1,80 @@
+-- Bits of unions, of single places and of the empty word.
+-- Assumes nothing.
+use Prim.Native.Nat.{ℕ, zero, suc, _+_, _-_, _*_, _/_, _%_, _^_, _<_, max}
+use mathlib.Core.Path.{_≡_, refl, sym, _∙_, ap}
+use mathlib.Core.Bool.{Bool, true, false, cond, _&&_, _||_}
+use native.Mathlib.Nat.{mod-lt, zero-div, div-eq-of-lt, zero-lt-suc, div-self, mod-eq-of-lt, pow-suc}
+use native.Mathlib.Omega.{arith}
+use native.Mathlib.Decide.{ℕ-discrete, decLt}
+use borrow.Author.Tests.{eq-eqb, ne-eqb}
+use lib.Dec.{eqb}
+use lib.Pow.{pow-pos, pow-lt, pow-add, shl-shr}
+use lib.Bits.{bitOr, or-shr, or-step, or-zero-l, or-zero-r}
+use Rattle.operators.specs.Bits.{bitAt, mixOf}
+
+two-pos : 0 < 2
+two-pos = zero-lt-suc 1
+
+digit : (u v : ℕ) → u < 2 → v < 2 → eqb (max u v) 1 ≡ (eqb u 1 || eqb v 1)
+digit zero zero h g = refl
+digit zero (suc zero) h g = refl
+digit zero (suc (suc v)) h g = absurd (omega arith)
+digit (suc zero) zero h g = refl
+digit (suc zero) (suc zero) h g = refl
+digit (suc zero) (suc (suc v)) h g = absurd (omega arith)
+digit (suc (suc u)) v h g = absurd (omega arith)
+
+pub bit-or : (a b k : ℕ) → bitAt (bitOr a b) k ≡ (bitAt a k || bitAt b k)
+unfolding bitAt
+bit-or a b k = go (a / 2 ^ k) (b / 2 ^ k) (or-shr a b k)
+  where
+    go : (x y : ℕ) → bitOr a b / 2 ^ k ≡ bitOr x y → eqb (bitOr a b / 2 ^ k % 2) 1 ≡ (eqb (x % 2) 1 || eqb (y % 2) 1)
+    go x y e =
+        let s : bitOr x y ≡ bitOr (x / 2) (y / 2) * 2 + max (x % 2) (y % 2) = or-step x y in
+        let m : bitOr x y % 2 ≡ max (x % 2) (y % 2) = omega (arith, mod-lt x two-pos, mod-lt y two-pos) in
+        rw (e, m) (digit (x % 2) (y % 2) (mod-lt x two-pos) (mod-lt y two-pos))
+
+pub bit-none : (k : ℕ) → bitAt 0 k ≡ false
+unfolding bitAt
+bit-none k = rw (zero-div (2 ^ k))
+
+pub bit-cond : (a : Bool) (t k : ℕ) → bitAt (cond a t 0) k ≡ (a && bitAt t k)
+bit-cond true t k = refl
+bit-cond false t k = bit-none k
+
+pub bit-mix : (a : Bool) (t : ℕ) (b : Bool) (s k : ℕ) → bitAt (mixOf a t b s) k ≡ ((a && bitAt t k) || (b && bitAt s k))
+unfolding mixOf
+bit-mix a t b s k = rw (bit-or (cond a t 0) (cond b s 0) k, bit-cond a t k, bit-cond b s k)
+
+pub bit-unit : (k j : ℕ) → bitAt (2 ^ k) j ≡ eqb j k
+unfolding bitAt
+bit-unit k j = go (ℕ-discrete j k) (decLt j k)
+  where
+    go : Dec (j ≡ k) → Dec (j < k) → eqb (2 ^ k / 2 ^ j % 2) 1 ≡ eqb j k
+    go (yes e) d =
+        let f : 2 ^ k / 2 ^ k ≡ 1 = div-self (pow-pos k) in
+        rw (e, f, eq-eqb k k refl)
+    go (no ne) (yes l) =
+        let e : k ≡ suc (k - suc j) + j = omega arith in
+        let f : 2 ^ k / 2 ^ j ≡ 2 ^ suc (k - suc j) = ap (λ (m : ℕ). 2 ^ m / 2 ^ j) e ∙ ap (λ (m : ℕ). m / 2 ^ j) (pow-add 2 (suc (k - suc j)) j) ∙ shl-shr (2 ^ suc (k - suc j)) j in
+        let g : 2 ^ suc (k - suc j) ≡ 2 ^ (k - suc j) * 2 = pow-suc 2 (k - suc j) in
+        let m : 2 ^ k / 2 ^ j % 2 ≡ 0 = omega arith in
+        rw (m, ne-eqb j k ne)
+    go (no ne) (no l) =
+        let f : 2 ^ k / 2 ^ j ≡ 0 = div-eq-of-lt (pow-lt (omega arith)) in
+        rw (f, ne-eqb j k ne)
+
+pub mix-left : (t s : ℕ) → t ≡ mixOf true t false s
+unfolding mixOf
+mix-left t s = sym (or-zero-r t)
+
+pub mix-right : (t s : ℕ) → s ≡ mixOf false t true s
+unfolding mixOf
+mix-right t s = sym (or-zero-l s)
+
+-- the machine's shift
+pub bit-shifted : (k : ℕ) → k < 64 → (j : ℕ) → bitAt (1 * 2 ^ k % 2 ^ 64) j ≡ eqb j k
+bit-shifted k h j =
+    let e : 1 * 2 ^ k ≡ 2 ^ k = omega arith in
+    let f : 2 ^ k % 2 ^ 64 ≡ 2 ^ k = mod-eq-of-lt (pow-lt h) in
+    rw (e, f) (bit-unit k j)

@@ -1,0 +1,83 @@
+-- `operators::galerkin::galerkin_computed` meets its contract. The invariant: the first c rows are laid over the values as they were at first.
+-- Assumes nothing.
+use Prim.Native.Nat.{_-_}
+use native.Mathlib.Omega.{arith}
+use borrow.Author.Needs.{needs}
+use Rattle.numbers.specs.Places.{numberAt}
+use Rattle.lattice.specs.Lattice.{medium}
+use Rattle.operators.specs.Stencil.{stencilRow}
+use Rattle.operators.specs.Galerkin.{galerkinNumbers, rowsIn}
+use Rattle.operators.proofs.GalerkinLaws.{RowsLaid, zeros-long, rows-start, rows-same, rows-turn, rows-end, finite-room, rows-finite}
+use Rattle.operators.proofs.galerkin.galerkin_computed.Statement.{statement}
+use Rattle.operators.proofs.galerkin.galerkin_computed.Tie as tie
+
+abbrev Inv-loop : tie.InvT-loop
+Inv-loop l st eps p starts columns values t tstarts tcolumns tvalues m o ostarts ocolumns ovalues₀ sums₀ c₀ ovalues sums c =
+    RowsLaid (galerkinNumbers (stencilRow (medium l st) (numberAt eps)) (rowsIn p starts columns values) (rowsIn t tstarts tcolumns tvalues)) m (o .k)
+    ovalues₀ ovalues sums c
+
+abbrev μ-loop : tie.MeasureT-loop
+μ-loop l st eps p starts columns values t tstarts tcolumns tvalues m o ostarts ocolumns ovalues₀ sums₀ c₀ ovalues sums c = m - c
+
+loop-holds : tie.Need-loop-holds Inv-loop μ-loop
+loop-holds c = rows-start zeros-long
+
+slice-aggregate-galerkin-row-computed :
+    tie.Need-slice-aggregate-galerkin-row-computed Inv-loop μ-loop
+slice-aggregate-galerkin-row-computed c = search needs
+
+galerkin-row-computed-requires : tie.Need-galerkin-row-computed-requires Inv-loop μ-loop
+galerkin-row-computed-requires c κs =
+    let s = c .before .before .before .before .before .before .before .before .before .before .before .before .before .before .before in
+    let h = c .before .before .loop-test .taken in
+    (s .pre .0, (s .pre .1 .0, (s .pre .1 .1 .0, (s .pre .1 .1 .1 .0, (s .pre .1 .1 .1 .1 .0, (s .pre .1 .1 .1 .1 .1 .0 .each-met _ h, (h, c .before .before .before .loop .inv .long)))))))
+
+add-c : tie.Need-add-c Inv-loop μ-loop
+add-c c = search needs
+
+loop-less : tie.Need-loop-less Inv-loop μ-loop
+loop-less c = search needs
+
+loop-again : tie.Need-loop-again Inv-loop μ-loop
+loop-again c = rows-turn _ _ _ (c .before .before .before .before .before .before .before .loop .inv) (c .before .before .before .before .before .before .loop-test .taken) (c .before .before .before .galerkin-row-computed .ensures .1) (c .before .before .before .galerkin-row-computed .ensures .0)
+
+add-finite-numbers : tie.Need-add-finite-numbers Inv-loop μ-loop
+add-finite-numbers c = omega (arith, c .before .before .before .before .before .before .before .before .before .before .before .before .before .before .before .pre .1 .1 .1 .1 .0 .starts-room)
+
+mul-finite-numbers : tie.Need-mul-finite-numbers Inv-loop μ-loop
+mul-finite-numbers c = omega (arith, c .before .before .before .before .before .before .before .before .before .before .before .before .before .before .before .pre .1 .1 .1 .1 .0 .starts-room)
+
+shared-slice-read-finite-numbers : tie.Need-shared-slice-read-finite-numbers Inv-loop μ-loop
+shared-slice-read-finite-numbers c = omega (arith, c .before .before .before .before .before .before .before .before .before .before .before .before .before .before .before .before .pre .1 .1 .1 .1 .0 .starts-room)
+
+finite-numbers-requires : tie.Need-finite-numbers-requires Inv-loop μ-loop
+finite-numbers-requires c κs = finite-room _ _ _ (c .before .before .before .before .before .before .before .before .before .before .before .before .before .before .before .before .pre .1 .1 .1 .1 .0) (c .before .before .before .before .loop .inv) (c .before .before .before .before .before .before .before .before .before .before .before .before .before .before .before .before .pre .1 .1 .1 .1 .1 .1)
+
+same-length : tie.Need-same-length Inv-loop μ-loop
+same-length c = rows-same (c .before .before .before .before .before .loop .inv)
+
+returns : tie.Need-returns Inv-loop μ-loop
+returns c =
+    let s = c .before .before .before .before .before .before .before .before .before .before .before .before .before .before .before .before .before in
+    let w = c .before .before .before .before .before .loop .inv in
+    let h = c .before .before .before .before .loop-test .left in
+    (rows-end w h, rows-finite _ _ _ (s .pre .1 .1 .1 .1 .0) w (s .pre .1 .1 .1 .1 .1 .1) h (c .finite-numbers .ensures))
+
+pub galerkin-computed-spec : {M : Type 1} → statement M
+galerkin-computed-spec =
+    tie.close
+    (tie.spec
+    Inv-loop
+    μ-loop
+    loop-holds
+    slice-aggregate-galerkin-row-computed
+    galerkin-row-computed-requires
+    add-c
+    loop-less
+    loop-again
+    add-finite-numbers
+    mul-finite-numbers
+    shared-slice-read-finite-numbers
+    finite-numbers-requires
+    same-length
+    returns)

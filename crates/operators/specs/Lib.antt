@@ -1,0 +1,17 @@
+pub mod Relation
+pub mod Pattern
+pub mod Relations0
+pub mod Bits
+pub mod Columns
+pub mod Compose
+pub mod Numbered
+pub mod Base
+pub mod Collect
+pub mod Stencil
+pub mod Galerkin
+pub mod Averaged
+pub mod Rediscretized
+pub mod Volumes
+pub mod Levels
+pub mod LevelLists
+pub mod Cases
