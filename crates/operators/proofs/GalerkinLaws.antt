@@ -249,7 +249,7 @@ terms-agree cs xs ys k (suc n) h =
     λ i. record { column = getD cs k 0; number = p i } ∷ q i
 
 module _ {starts : List ℕ} {s : ℕ} {cs : List ℕ} {xs : List Float} {k n m : ℕ} (u : Stored starts s cs xs k n m) where
-  stored-most : (r : ℕ) → r < n → getD starts (s + r + 1) 0 ≤ getD starts (s + n) 0
+  pub stored-most : (r : ℕ) → r < n → getD starts (s + r + 1) 0 ≤ getD starts (s + n) 0
   stored-most r h = row-of u r h .most
 
   -- a row's columns are below m
@@ -387,7 +387,7 @@ module _ (A P R : ℕ → List Term) where
 -- ---- a fine operator that stands in the same lists, before the rows
 
 -- rows with the same columns
-columned-agree : {f g : ℕ → List ℕ} {m : ℕ} {o : Part} {starts cs : List ℕ} → ((c : ℕ) → c < m → f c ≡ g c) → Columned f m o starts cs → Columned g m o starts cs
+pub columned-agree : {f g : ℕ → List ℕ} {m : ℕ} {o : Part} {starts cs : List ℕ} → ((c : ℕ) → c < m → f c ≡ g c) → Columned f m o starts cs → Columned g m o starts cs
 columned-agree {f} {g} {m} {o} {starts} {cs} h u =
     let e : (c : ℕ) → c ≤ m → startOf f c ≡ startOf g c = λ c b. start-agree f g m h c (omega arith) in
     record {

@@ -34,7 +34,7 @@ use Rattle.operators.proofs.RowMembers.{rises-span, Via, row-via, via-r
 -- ---- level 0
 
 -- it has the lattice's own cells
-grid-first : (l : Medium) → gridAt l 0 ≡ l .grid
+pub grid-first : (l : Medium) → gridAt l 0 ≡ l .grid
 unfolding gridAt gridWith nOf axis3
 grid-first l =
     λ i. record { nx = finest-cells l 0 i; ny = finest-cells l 1 i; nz = finest-cells l 2 i; dx = l .grid .dx; dy = l .grid .dy; dz = l .grid .dz }

@@ -37,3 +37,4 @@ pub mod Cases
 pub mod AverageLaws
 pub mod LevelTableLaws
 pub mod LevelTables
+pub mod LevelListLaws

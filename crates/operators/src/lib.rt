@@ -5,6 +5,7 @@ pub mod base;
 pub mod columns;
 pub mod compose;
 pub mod galerkin;
+pub mod levels;
 pub mod pattern;
 pub mod rediscretized;
 pub mod stencil;
