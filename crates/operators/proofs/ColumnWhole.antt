@@ -14,7 +14,7 @@ use Rattle.operators.specs.Pattern.{nameOf, nameAt, Ladder, rel, box, Pa
 use Rattle.operators.specs.Bits.{bitAt}
 use Rattle.operators.specs.Columns.{block, row, picked, number}
 use Rattle.operators.specs.declared.columns.Picks.{Picks}
-use Rattle.operators.proofs.RelationLaws.{and-both, both-and}
+use Rattle.operators.proofs.RelationLaws.{and-both, both-and, either-of, or-left, or-right}
 use Rattle.operators.proofs.PatternTheorem.{row-live}
 use Rattle.operators.proofs.ColumnSorted.{In, Span, in-append, in-left, in-right, unique}
 use Rattle.operators.proofs.ColumnMeaning.{block-in, in-block, row-span}
@@ -35,17 +35,6 @@ near-name a b d = rw (eq-eqb d d refl, and-true (eqb a b))
 same-name : (a b w d : ℕ) → (d ≡ w → ⊥) → nameAt a b w d ≡ nameOf (eqb d a) (eqb d b) false
 unfolding nameAt
 same-name a b w d h = rw (ne-eqb d w h, and-false (eqb a b))
-
-or-either : (a b : Bool) → (a || b) ≡ true → (a ≡ true) ⊎ (b ≡ true)
-or-either true b h = inl h
-or-either false b h = inr h
-
-left-or : {a : Bool} (b : Bool) → a ≡ true → (a || b) ≡ true
-left-or b h = rw h
-
-right-or : (a : Bool) {b : Bool} → b ≡ true → (a || b) ≡ true
-right-or true h = refl
-right-or false h = h
 
 -- one of three
 unfoldable pub Three : Picks → ℕ → ℕ → ℕ → Type 0
@@ -68,16 +57,16 @@ picked-three s k j i h =
     (⊎-elim
     (λ f. let u = and-both _ _ f in inl (t .1, u .1, u .0))
     (λ f. let u = and-both _ _ f in inr (t .1, u .1, u .0))
-    (or-either _ _ (t .0))))
-    (or-either _ _ h)
+    (either-of _ _ (t .0))))
+    (either-of _ _ h)
 
 three-picked : (s : Picks) (k j i : ℕ) → Three s k j i → picked s k j i ≡ true
 unfolding picked Three
-three-picked s k j i (inl t) = left-or _ (both-and (both-and (t .2) (t .1)) (t .0))
+three-picked s k j i (inl t) = or-left _ (both-and (both-and (t .2) (t .1)) (t .0))
 three-picked s k j i (inr (inl t)) =
-    right-or ((bitAt (s .sz) k && bitAt (s .sy) j) && bitAt (s .tx) i) (both-and (left-or (bitAt (s .tz) k && bitAt (s .sy) j) (both-and (t .2) (t .1))) (t .0))
+    or-right ((bitAt (s .sz) k && bitAt (s .sy) j) && bitAt (s .tx) i) (both-and (or-left (bitAt (s .tz) k && bitAt (s .sy) j) (both-and (t .2) (t .1))) (t .0))
 three-picked s k j i (inr (inr t)) =
-    right-or ((bitAt (s .sz) k && bitAt (s .sy) j) && bitAt (s .tx) i) (both-and (right-or (bitAt (s .sz) k && bitAt (s .ty) j) (both-and (t .2) (t .1))) (t .0))
+    or-right ((bitAt (s .sz) k && bitAt (s .sy) j) && bitAt (s .tx) i) (both-and (or-right (bitAt (s .sz) k && bitAt (s .ty) j) (both-and (t .2) (t .1))) (t .0))
 
 module _ (M : Ladder) (L a b : ℕ) (p : Spot) (s : Picks) (ok : Picked M L a b p s) (q : Spot) (inside : Within (box M L) q) where
   pub three-pattern : Three s (q .z) (q .y) (q .x) → Pattern M L a b p q

@@ -35,6 +35,7 @@ use Rattle.weights.proofs.ListLaws.{laid-behind-laid}
 use Rattle.weights.proofs.PairLaws.{node-below, node-most, paired-at}
 use Rattle.operators.specs.declared.averaged.Hat.{Hat}
 use Rattle.operators.specs.Averaged.{hatWeight, wrappedPlace, walk, nodeIn, hatPlace, nodeBefore, lowerHats, hatAbove, upperHats, around, hatsAround, hatNodes, hatWeights, HatsLaid, hatAt, hatsIn, Hats, AxisHats, LinePair, PairedLines}
+use Rattle.operators.proofs.NeighbourSpots.{low3}
 
 -- ---- values laid over a list of any kind: the length, and what is read elsewhere
 
@@ -707,12 +708,6 @@ axis-whole {t} {ns} {ws} {ks} {a} {f} {c} {wall} pair w e d p =
       inside = λ m q h k. rw (← e) (done-in pair (omega arith) p m q (rw (← n) at h) k);
     }
 
-by-axis : (P : ℕ → Type 0) → P 0 → P 1 → P 2 → (a : ℕ) → a < 3 → P a
-by-axis P x y z zero h = x
-by-axis P x y z (suc zero) h = y
-by-axis P x y z (suc (suc zero)) h = z
-by-axis P x y z (suc (suc (suc a))) h = absurd (omega arith)
-
 hats-whole : {t : TwoLevels} {ns : List ℕ} {ws : List Float} {ks : List ℕ} → (length ns ≡ 24576) × (length ws ≡ 24576) × (length ks ≡ 192)
     → ((a : ℕ) → a < 3 → AxisWhole t ns ws ks a) → Hats t ns ws ks
 unfolding hatsAround
@@ -738,7 +733,7 @@ unfolding twoOf edgesOf fineLine coarseLine axis3
 hats-three {l} {fine} {coarse} {wx} {wy} {wz} {ns₃ = ns₃} {ws₃ = ws₃} {ks₃ = ks₃} p long ex ey ez x y z =
     hats-whole
     (axis-long z (axis-long y (axis-long x long)))
-    (by-axis (AxisWhole (twoOf l fine coarse) ns₃ ws₃ ks₃)
+    (low3 (AxisWhole (twoOf l fine coarse) ns₃ ws₃ ks₃)
     (axis-whole (p .x-pair) ex refl refl (axis-kept (p .x-pair .coarse-held .most) (omega arith) z (axis-kept (p .x-pair .coarse-held .most) (omega arith) y (done-of x))))
     (axis-whole (p .y-pair) ey refl refl (axis-kept (p .y-pair .coarse-held .most) (omega arith) z (done-of y)))
     (axis-whole (p .z-pair) ez refl refl (done-of z)))

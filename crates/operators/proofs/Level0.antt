@@ -12,21 +12,10 @@ use Rattle.operators.specs.Relation.{Rel, after, Spot, Within, Times, af
 use Rattle.operators.specs.Pattern.{Role, along, across, roleOf, nameOf, nameAt, rel, Pattern, SpotEdge, spotEdge}
 use Rattle.operators.specs.Base.{liveAt, follows, baseOf}
 use Rattle.operators.specs.Relations0.{ahead, back, curlH, curlE, grad, div, cells, curlHCube, curlECube, gradCube, divCube, Free, ByFace, Stencil}
-use Rattle.operators.proofs.RelationLaws.{and-both, both-and, after-by, by-after, product}
+use Rattle.operators.proofs.RelationLaws.{and-both, both-and, after-by, by-after, product, either-of, or-left, or-right}
 use Rattle.operators.proofs.Sound.{ladder}
 
 -- Bools
-pub either-of : (a b : Bool) → (a || b) ≡ true → (a ≡ true) ⊎ (b ≡ true)
-either-of true b h = inl h
-either-of false b h = inr h
-
-pub or-left : {a : Bool} (b : Bool) → a ≡ true → (a || b) ≡ true
-or-left b h = rw h
-
-pub or-right : (a : Bool) {b : Bool} → b ≡ true → (a || b) ≡ true
-or-right true h = refl
-or-right false h = h
-
 -- j is the next of i: one step on, or around the border of a Bloch axis
 pub record Next (n : ℕ) (bloch : Bool) (i j : ℕ) : Type 0 where
   pub how : ((j ≡ i + 1) × (i + 1 < n)) ⊎ ((bloch ≡ true) × (i + 1 ≡ n) × (j ≡ 0))

@@ -19,15 +19,13 @@ use Rattle.operators.specs.Levels.{forwardRel, isOwn, isBloch, ladderOf,
 use Rattle.operators.specs.Numbered.{nameNo, roleNo, columnNo, Right}
 use Rattle.operators.specs.Pattern.{Role, coarser, rel, rowRole, columnRole}
 use Rattle.operators.specs.Relation.{after, turned}
+use Rattle.operators.proofs.StencilPattern.{finest-cells}
+use Rattle.operators.proofs.ForwardPattern.{fine-cells, coarse-cells}
 use Rattle.operators.proofs.LevelTableLaws.{cellList, cell-at}
 use Rattle.operators.proofs.RelationLaws.{after-below}
 use Rattle.operators.proofs.TableLevels.{row-no, column-no-is}
 
 -- ---- level 0
-
-finest-cells : (l : Medium) (d : ℕ) → cellsAt l d 0 ≡ nOf (l .grid) d
-unfolding cellsAt lineAt finestEnds
-finest-cells l d = omega (arith, length-tabulate twice (nOf (l .grid) d + 1) 0)
 
 kind-at : (l : Medium) (d : ℕ) → d < 3 → getD (isBloch l 0 ∷ (isBloch l 1 ∷ (isBloch l 2 ∷ []))) d false ≡ isBloch l d
 kind-at l zero h = refl
@@ -46,20 +44,6 @@ right-base l limits t b =
     }
 
 -- ---- one level down
-
-fine-cells : (l : Medium) (L d : ℕ) → d < 3 → fineCells (twoAt l L) d ≡ cellsAt l d L
-unfolding fineCells fineLine twoAt axis3 cellsAt
-fine-cells l L zero h = refl
-fine-cells l L (suc zero) h = refl
-fine-cells l L (suc (suc zero)) h = refl
-fine-cells l L (suc (suc (suc d))) h = absurd (omega arith)
-
-coarse-cells : (l : Medium) (L d : ℕ) → d < 3 → coarseCells (twoAt l L) d ≡ cellsAt l d (suc L)
-unfolding coarseCells coarseLine twoAt axis3 cellsAt
-coarse-cells l L zero h = refl
-coarse-cells l L (suc zero) h = refl
-coarse-cells l L (suc (suc zero)) h = refl
-coarse-cells l L (suc (suc (suc d))) h = absurd (omega arith)
 
 own-no : (r : ℕ) → eqb r 0 ≡ isOwn (roleNo r)
 own-no zero = refl

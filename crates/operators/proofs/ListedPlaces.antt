@@ -18,7 +18,7 @@ use Rattle.lattice.specs.Curls.{freeNodes}
 use Rattle.lattice.proofs.GridLaws.{at-index}
 use Rattle.weights.specs.Transfer.{contains}
 use Rattle.weights.proofs.EachLaws.{columns-append}
-use Rattle.operators.proofs.Level0.{either-of, or-left, or-right}
+use Rattle.operators.proofs.RelationLaws.{either-of, or-left, or-right}
 use Rattle.operators.proofs.ColumnSorted.{In, in-append, in-left, in-right}
 
 -- ---- members

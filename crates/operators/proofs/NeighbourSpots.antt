@@ -22,8 +22,8 @@ use Rattle.operators.specs.Pattern.{across, roleOf}
 use Rattle.operators.specs.Base.{liveAt, follows}
 use Rattle.operators.specs.Relations0.{ahead, back, pick}
 use Rattle.operators.specs.Levels.{isBloch, spotOf}
-use Rattle.operators.proofs.RelationLaws.{both-and}
-use Rattle.operators.proofs.Level0.{or-left, or-right, next-of, ahead-cases, back-cases, ahead-same, ahead-next, back-same, back-next, live-along}
+use Rattle.operators.proofs.RelationLaws.{both-and, or-left, or-right}
+use Rattle.operators.proofs.Level0.{next-of, ahead-cases, back-cases, ahead-same, ahead-next, back-same, back-next, live-along}
 
 -- ---- one step
 

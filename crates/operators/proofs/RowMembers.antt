@@ -18,7 +18,7 @@ use Rattle.operators.specs.Collect.{inserted, collected, atFirst, fromZe
 use Rattle.operators.specs.Galerkin.{forwardTerm, forwardTerms, fineTerms, galerkinTerms, withDiagonal, galerkinRow}
 use Rattle.operators.proofs.ColumnSorted.{In, Span}
 use Rattle.operators.proofs.CollectLaws.{inserted-columns-same, collected-columns-same, inserted-rises, collected-rises}
-use Rattle.operators.proofs.Level0.{either-of, or-left, or-right}
+use Rattle.operators.proofs.RelationLaws.{either-of, or-left, or-right}
 use Rattle.operators.proofs.ListedPlaces.{contains-in, in-contains}
 use Rattle.operators.proofs.MemberLaws.{each-in, in-each}
 

@@ -31,7 +31,8 @@ use Rattle.operators.specs.Base.{liveAt}
 use Rattle.operators.specs.Columns.{number}
 use Rattle.operators.specs.Numbered.{picksOf, rowColumns, Right}
 use Rattle.operators.specs.Levels.{isBloch, ladderOf, spotOf, patternRow, Base}
-use Rattle.operators.proofs.Level0.{either-of, or-left, level0}
+use Rattle.operators.proofs.RelationLaws.{either-of, or-left}
+use Rattle.operators.proofs.Level0.{level0}
 use Rattle.operators.proofs.Sound.{dropped, ladder, base-same, base-near, base-live}
 use Rattle.operators.proofs.ColumnSorted.{In, Span}
 use Rattle.operators.proofs.ColumnWhole.{Column, row-only}
