@@ -2,7 +2,6 @@
 -- the two levels do, and the whole level.
 -- Assumes nothing.
 use Prim.Native.Nat.{ℕ, zero, suc, _+_, _-_, _*_, _<_, _≤_, _^_}
-use native.Mathlib.Numerals.{add-one}
 use native.Mathlib.Omega.{arith}
 use mathlib.Core.Path.{_≡_, refl, sym, ap, _∙_}
 use mathlib.Core.Bool.{Bool}
@@ -12,9 +11,8 @@ use lib.IntN.{pos}
 use lib.ListN.{length, getD}
 use lib.Ieee.{Float, binary64, ofInt, inFloat}
 use Rattle.numbers.specs.declared.C64.{C64}
-use Rattle.numbers.specs.Complex.{addF, mulF, oneF, zeroF, zeroNumber, sum, realOver, overReal}
+use Rattle.numbers.specs.Complex.{addF, mulF, zeroF, zeroNumber, sum, realOver, overReal}
 use Rattle.numbers.specs.Places.{numberAt, setNumber}
-use Rattle.numbers.proofs.Laws.{length-setNumber, number-other}
 use Rattle.lattice.specs.declared.grid.Grid3d.{Grid3d}
 use Rattle.lattice.specs.declared.grid.Position.{Position}
 use Rattle.lattice.specs.declared.levels.Three.{Three}
@@ -25,7 +23,7 @@ use Rattle.lattice.specs.Terms.{each}
 use Rattle.lattice.proofs.GridLaws.{next-low, last-low, n-most, place-inside, index-below, at-inside, unknowns-most}
 use Rattle.lattice.proofs.RowLaws.{small-float}
 use Rattle.lattice.proofs.TabulateLaws.{length-tabulate, tabulate-agree}
-use Rattle.weights.specs.Lists.{laidBy, laidNumbers, allFinite}
+use Rattle.weights.specs.Lists.{laidNumbers, allFinite}
 use Rattle.weights.specs.TwoLevels.{TwoLevels, coarseCells, nodeOn, fineGrid, coarseGrid, twoOf}
 use Rattle.weights.specs.Interpolate.{whole}
 use Rattle.weights.specs.CoarseEps.{edgeAlong, edgesAlong, inverted}

@@ -1,9 +1,9 @@
 -- Terms added to sums by column: one behind another, and in loops over the terms of two lists.
 -- Assumes nothing.
-use Prim.Native.Nat.{ℕ, zero, suc, _+_, _-_, _*_, _/_, _<_, _≤_, _^_}
+use Prim.Native.Nat.{ℕ, suc, _+_, _-_, _*_, _/_, _<_, _≤_, _^_}
 use mathlib.Core.Path.{_≡_, refl, sym, _∙_, ap}
 use mathlib.Core.Logic.{_≢_}
-use mathlib.Core.Bool.{Bool, true, false, cond}
+use mathlib.Core.Bool.{cond}
 use mathlib.Core.List.{List, [], _∷_, _++_}
 use native.Mathlib.Omega.{arith}
 use native.Mathlib.Numerals.{add-one}
@@ -15,7 +15,7 @@ use lib.Ieee.{Float}
 use Rattle.numbers.specs.declared.C64.{C64}
 use Rattle.numbers.specs.Complex.{zeroNumber, sum}
 use Rattle.numbers.specs.Places.{places, numberAt, setNumber, foundAt}
-use Rattle.numbers.proofs.Laws.{length-setNumber, number-same, number-other, found-held, set-outside}
+use Rattle.numbers.proofs.Laws.{length-setNumber, number-same, number-other, found-held}
 use Rattle.lattice.specs.Terms.{Term, each, termsIn}
 use Rattle.lattice.proofs.TermLaws.{in-more, each-append, each-one}
 use Rattle.lattice.specs.Lattice.{tabulate}

@@ -1,6 +1,6 @@
 -- The relations in lists are those of the lattice's ladder, level by level.
 -- Assumes nothing.
-use Prim.Native.Nat.{ℕ, zero, suc, _+_, _*_, _/_, _%_, _<_}
+use Prim.Native.Nat.{ℕ, zero, suc, _*_, _/_, _%_, _<_}
 use mathlib.Core.Path.{_≡_, refl, sym, ap, _∙_}
 use mathlib.Core.Bool.{Bool, false, _&&_}
 use mathlib.Core.List.{List, [], _∷_}
@@ -8,12 +8,10 @@ use native.Mathlib.Omega.{arith}
 use borrow.Author.Tests.{ne-eqb, lt-ltb}
 use lib.Dec.{eqb, ltb}
 use lib.ListN.{getD}
-use Rattle.lattice.specs.Grid.{axis3, nOf, Limits}
+use Rattle.lattice.specs.Grid.{Limits}
 use Rattle.lattice.specs.Lattice.{Medium}
-use Rattle.lattice.specs.Line.{twice, finestEnds}
-use Rattle.lattice.specs.Levels.{lineAt, cellsAt}
-use Rattle.lattice.proofs.TabulateLaws.{length-tabulate}
-use Rattle.weights.specs.TwoLevels.{twoAt, fineLine, coarseLine, fineCells, coarseCells}
+use Rattle.lattice.specs.Levels.{cellsAt}
+use Rattle.weights.specs.TwoLevels.{twoAt, fineCells}
 use Rattle.operators.specs.Compose.{table, composed}
 use Rattle.operators.specs.Levels.{forwardRel, isOwn, isBloch, ladderOf, Base, Below}
 use Rattle.operators.specs.Numbered.{nameNo, roleNo, columnNo, Right}

@@ -8,7 +8,6 @@ use mathlib.Core.Path.{_≡_, refl, sym, ap, _∙_}
 use mathlib.Core.Bool.{Bool, true, false, cond}
 use mathlib.Core.List.{List, [], _∷_, _++_}
 use lib.ListN.{length, getD}
-use Rattle.numbers.specs.declared.C64.{C64}
 use Rattle.numbers.specs.Complex.{oneNumber, zeroNumber}
 use Rattle.lattice.specs.Line.{Rises}
 use Rattle.lattice.specs.Terms.{Term, columnsOf, each}

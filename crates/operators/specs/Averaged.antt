@@ -1,9 +1,9 @@
 -- The permittivity of a rediscretized level (docs/SPECIFICATION.md, 10): along an edge the harmonic mean of the fine permittivities in its cell,
 -- across it the mean over the fine nodes around its own, each weighed by its distance. Places are whole half-steps, never maps.
 -- Assumes nothing.
-use Prim.Native.Nat.{ℕ, zero, suc, _+_, _-_, _*_, _/_, _%_, _<_, _≤_, _^_, min}
+use Prim.Native.Nat.{ℕ, zero, suc, _+_, _-_, _*_, _%_, _<_, _≤_, _^_, min}
 use mathlib.Core.Path.{_≡_}
-use mathlib.Core.Bool.{Bool, not, _&&_, cond}
+use mathlib.Core.Bool.{Bool, _&&_, cond}
 use mathlib.Core.Logic.{_⊎_}
 use mathlib.Core.List.{List, [], _∷_, _++_}
 use lib.Dec.{eqb, ltb}

@@ -5,7 +5,7 @@ use Prim.Native.Nat.{ℕ}
 use mathlib.Core.Bool.{Bool, true, false}
 use mathlib.Core.List.{List, [], _∷_, _++_}
 use lib.Ieee.{Float}
-use Rattle.lattice.specs.Cases.{Outcome, Case, over}
+use Rattle.lattice.specs.Cases.{Case, over}
 use Rattle.weights.specs.Cases as Below
 use Rattle.operators.specs.Averaged.{around, hatNodes, hatWeights}
 

@@ -1,9 +1,9 @@
 -- Galerkin's operator rows (docs/SPECIFICATION.md, 9): over the turned row, the fine row by column and the forward row, (weight × value) × weight,
 -- summed by column from +0; an untouched diagonal is 1. A, P and R give the rows of the fine operator, of the prolongation and of its transpose.
 -- Assumes nothing.
-use Prim.Native.Nat.{ℕ, _+_, _-_, _*_, _<_, _≤_, _^_}
+use Prim.Native.Nat.{ℕ, _+_, _-_, _<_, _≤_, _^_}
 use mathlib.Core.Path.{_≡_}
-use mathlib.Core.Bool.{Bool, true, cond}
+use mathlib.Core.Bool.{true, cond}
 use mathlib.Core.List.{List, [], _∷_}
 use lib.Dec.{eqb}
 use lib.ListN.{length, getD}

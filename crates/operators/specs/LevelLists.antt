@@ -1,20 +1,14 @@
 -- A level's transfer and operator in lists (docs/SPECIFICATION.md, 9 and 10), as the next level's is worked out from them.
 -- Assumes nothing.
-use Prim.Native.Nat.{ℕ, suc, _+_, _*_, _/_, _%_, _<_, _≤_, _^_}
+use Prim.Native.Nat.{ℕ, suc, _<_}
 use mathlib.Core.Path.{_≡_}
-use mathlib.Core.Bool.{Bool, _&&_}
 use mathlib.Core.List.{List}
-use lib.ListN.{length}
 use lib.Ieee.{Float}
 use Rattle.numbers.specs.declared.C64.{C64}
 use Rattle.lattice.specs.Grid.{unknownsOf}
-use Rattle.lattice.specs.Lattice.{Medium, tabulate}
-use Rattle.lattice.specs.Terms.{Term}
-use Rattle.weights.specs.Lists.{laidNumbers, allFinite, rows}
-use Rattle.weights.specs.Transfer.{numbersOf, Stored, Turned}
-use Rattle.weights.specs.Tables.{readFrom}
+use Rattle.lattice.specs.Lattice.{Medium}
+use Rattle.weights.specs.Transfer.{Stored}
 use Rattle.operators.specs.declared.galerkin.Part.{Part}
-use Rattle.operators.specs.Averaged.{averagedEps}
 use Rattle.operators.specs.Galerkin.{rowsIn}
 use Rattle.operators.specs.Levels.{gridAt, forwardAt, turnedAt, galerkinAt}
 

@@ -25,11 +25,11 @@ use Rattle.operators.specs.Base.{baseOf, Based}
 use Rattle.operators.specs.Compose.{table, composed}
 use Rattle.operators.specs.Galerkin.{galerkinRow}
 use Rattle.operators.specs.Numbered.{columnNo, rowColumns}
-use Rattle.operators.specs.Pattern.{Role, along, across, Name, Ladder}
+use Rattle.operators.specs.Pattern.{Role, along, across, Ladder}
 use Rattle.operators.specs.Rediscretized.{rediscretizedLattice}
 use Rattle.operators.specs.Relation.{Rel, Spot}
 use Rattle.operators.specs.Stencil.{stencilRow}
-use Rattle.operators.specs.Volumes.{volumeOf, shareOf, inverseShare}
+use Rattle.operators.specs.Volumes.{volumeOf, inverseShare}
 
 -- ---- numbers: f reads the given permittivities
 

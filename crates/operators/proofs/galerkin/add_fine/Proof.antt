@@ -1,7 +1,6 @@
 use Rattle.operators.proofs.GatherLaws.{place-below, count-gathered}
 use borrow.Author.Needs.{needs}
 use Prim.Native.Nat.{_-_}
-use native.Mathlib.Omega.{arith}
 use Rattle.operators.proofs.GatherLaws.{Adding, adding-start, adding-turn, adding-end}
 use Rattle.operators.specs.Galerkin.{scaledTerm, rowsIn, forwardTerm, forwardTerms}
 use Rattle.operators.proofs.galerkin.add_fine.Statement.{statement}

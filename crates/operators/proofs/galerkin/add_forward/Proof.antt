@@ -1,6 +1,5 @@
 use borrow.Author.Needs.{needs}
 use Prim.Native.Nat.{_-_}
-use native.Mathlib.Omega.{arith}
 use Rattle.operators.proofs.GatherLaws.{Adding, adding-start, adding-turn, adding-end}
 use Rattle.operators.specs.Galerkin.{scaledTerm}
 use Rattle.operators.proofs.galerkin.add_forward.Statement.{statement}

@@ -2,7 +2,6 @@ use Rattle.operators.specs.Galerkin.{fineTerms}
 use Rattle.weights.specs.Transfer.{storedRow}
 use borrow.Author.Needs.{needs}
 use native.Mathlib.Omega.{arith}
-use mathlib.Core.Path.{refl}
 use Rattle.operators.proofs.GatherLaws.{bounds, stored-below}
 use Rattle.operators.proofs.galerkin.add_stored.Statement.{statement}
 use Rattle.operators.proofs.galerkin.add_stored.Tie as tie
