@@ -1,4 +1,5 @@
 -- Galerkin's operator of the next level in lists: its starts and columns are laid first, then its numbers are worked out from the rows in the lists.
+-- And the columns of a rediscretized level's rows.
 -- Assumes nothing.
 use Prim.Native.Nat.{ℕ, zero, suc, _+_, _-_, _*_, _<_, _≤_}
 use native.Mathlib.Omega.{arith}
@@ -30,9 +31,10 @@ use Rattle.weights.proofs.Tutorial.{columns-rows, numbers-rows, start-columns, 
 use Rattle.operators.specs.declared.galerkin.Part.{Part}
 use Rattle.operators.specs.Galerkin.{galerkinRow, galerkinColumns, galerkinNumbers, fineRowsRead, columnsAt, forwardRowsRead, rowsIn, Columned, MetAll}
 use Rattle.operators.specs.LevelLists.{edgesOn, TransferIn, OperatorIn}
-use Rattle.operators.specs.Levels.{forwardAt, turnedAt, galerkinAt, gridAt, ladderOf, patternRow, spotOf, Below}
+use Rattle.operators.specs.Levels.{averagedOn, forwardAt, turnedAt, galerkinAt, lineOn, latticeAt, rediscretizedAt, gridAt, ladderOf, patternRow, spotOf, Base, Below}
 use Rattle.operators.specs.Numbered.{Right}
 use Rattle.operators.specs.Pattern.{Ladder, Row}
+use Rattle.operators.specs.Rediscretized.{cellsOn, rediscretizedGrid, rediscretizedLattice}
 use Rattle.operators.specs.Relation.{Spot}
 use Rattle.operators.specs.Stencil.{stencilRow}
 use Rattle.operators.proofs.CollectSums.{in-at}
@@ -44,6 +46,7 @@ use Rattle.operators.proofs.GalerkinPattern.{grid-first, row-spans, gal
 use Rattle.operators.proofs.LevelTables.{right-next}
 use Rattle.operators.proofs.MemberLaws.{each-in, rows-in}
 use Rattle.operators.proofs.SecondCondition.{galerkin-local, met-all}
+use Rattle.operators.proofs.StencilPattern.{stencil-columns}
 
 -- ---- a level's grid, from its lines
 
@@ -401,3 +404,20 @@ module _ (l : Medium) (limits : Limits (l .grid)) (f : ℕ → C64) (L : ℕ) (o
         };
         rows-are = stored-is u (room .starts-room) (room .columns-room) (room .numbers-room);
       }
+
+-- ---- the rediscretized operator
+
+module _ (l : Medium) (limits : Limits (l .grid)) where
+  -- the lattice of a level has the level's cells
+  pub lattice-limits : (L : ℕ) → Limits (latticeAt l L .grid)
+  unfolding latticeAt rediscretizedLattice rediscretizedGrid lineOn cellsOn gridAt gridWith cellsAt
+  lattice-limits zero = limits
+  lattice-limits (suc L) =
+      let k : Limits (gridAt l (suc L)) = grid-limits l limits (suc L) in
+      record { x-some = k .x-some; x-most = k .x-most; y-some = k .y-some; y-most = k .y-most; z-some = k .z-some; z-most = k .z-most; total = k .total }
+
+  -- the columns of its rows are the pattern that its lattice's own relations give
+  pub rediscretized-columns : (f : ℕ → C64) (L : ℕ) (t : List ℕ) → Base (latticeAt l L) (latticeAt l L .grid) t → (r : ℕ) → r < unknownsOf (latticeAt l L .grid)
+      → columnsOf (rediscretizedAt l f L r) ≡ patternRow (latticeAt l L) (latticeAt l L .grid) t r
+  unfolding rediscretizedAt
+  rediscretized-columns f L t base r h = stencil-columns (latticeAt l L) (lattice-limits L) (averagedOn l f L) t base r h

@@ -38,3 +38,4 @@ pub mod AverageLaws
 pub mod LevelTableLaws
 pub mod LevelTables
 pub mod LevelListLaws
+pub mod RediscretizedLists

@@ -29,7 +29,7 @@ use Rattle.weights.specs.Transfer.{contains, numbersOf, startOf, startsOf, Turn
 use Rattle.weights.proofs.ListLaws.{laid-append, laid-same, starts-first, starts-more}
 use Rattle.weights.proofs.EachLaws.{numbers-append}
 use Rattle.operators.specs.Collect.{inserted, collected, atFirst}
-use Rattle.operators.specs.Stencil.{shiftNumber, shiftTerms, stencilRow}
+use Rattle.operators.specs.Stencil.{shiftNumber, shiftTerms, stencilRow, stencilReads}
 use Rattle.operators.proofs.CollectLaws.{length-collected, length-kept, collected-columns-same}
 use Rattle.operators.proofs.InsertLaws.{Stands, stands-over, stands-wrote, wrote-stands}
 
@@ -88,8 +88,8 @@ shift-local l f g r = go (Ieee.eq (l .shift) zeroF) (isFixed l r)
     go false true h = refl
     go false false h = rw (h r (head refl))
 
-pub stencil-local : (l : Medium) (f g : ℕ → C64) (r : ℕ) → ((c : ℕ) → In c (rowReads l r) → f c ≡ g c) → stencilRow l f r ≡ stencilRow l g r
-unfolding stencilRow
+pub stencil-local : (l : Medium) (f g : ℕ → C64) (r : ℕ) → ((c : ℕ) → In c (stencilReads l r) → f c ≡ g c) → stencilRow l f r ≡ stencilRow l g r
+unfolding stencilRow stencilReads
 stencil-local l f g r h =
     let p : rowInto l f r ≡ rowInto l g r = row-local l f g r h in
     let q : shiftTerms l f r ≡ shiftTerms l g r = shift-local l f g r h in

@@ -1,20 +1,28 @@
 // The operator of the next level, from what stands in the lists.
 
 ghost use mathlib.Core.Path.{_≡_};
+ghost use mathlib.Core.Bool.{_&&_};
 ghost use Prim.Native.Nat.{suc, _+_, _*_, _<_, _≤_, _^_};
 ghost use lib.ListN.{length, getD};
 ghost use Rattle.numbers.specs.Places.{numberAt};
 ghost use Rattle.lattice.specs.Grid.{unknownsOf, Limits};
-ghost use Rattle.lattice.specs.Lattice.{medium};
+ghost use Rattle.lattice.specs.Lattice.{medium, tabulate};
 ghost use Rattle.lattice.specs.Levels.{threeAt};
-ghost use Rattle.weights.specs.Lists.{rows as rowsOf, allFinite};
+ghost use Rattle.weights.specs.Lists.{rows as rowsOf, laidNumbers, allFinite};
+ghost use Rattle.weights.specs.Tables.{readFrom, ChainRoom};
 ghost use Rattle.weights.specs.Transfer.{numbersOf, startOf, Room, Turned};
-ghost use Rattle.operators.specs.Levels.{ladderOf, galerkinAt};
+ghost use Rattle.weights.specs.TwoLevels.{twoAt};
+ghost use Rattle.operators.specs.Averaged.{averagedEps};
+ghost use Rattle.operators.specs.Levels.{ladderOf, galerkinAt, latticeAt};
 ghost use Rattle.operators.specs.LevelLists.{edgesOn, TransferIn, OperatorIn};
 ghost use Rattle.operators.specs.Numbered.{Right};
+ghost use Rattle.operators.specs.Stencil.{stencilRow};
+use crate::averaged;
 use crate::galerkin;
 use crate::galerkin::Part;
 use crate::pattern;
+use crate::rediscretized;
+use crate::stencil;
 use lattice::grid;
 use lattice::lattice::Lattice;
 use lattice::levels::Three;
@@ -128,4 +136,35 @@ pub fn next_galerkin(
         ocolumns,
         ovalues,
     )
+}
+
+// The rediscretized operator of level `level` + 1: its permittivities, the mean of those of level `level` that stand at place `from`, are laid from
+// place `to` on; its rows, from the lattice of its own lines, over three lists from o on. Whether all numbers are finite.
+pub fn next_rediscretized(
+    l: Lattice,
+    st: &[f64],
+    level: usize,
+    fine: Three,
+    coarse: Three,
+    eps: &mut [f64],
+    from: usize,
+    to: usize,
+    o: Part,
+    ostarts: &mut [usize],
+    ocolumns: &mut [usize],
+    ovalues: &mut [f64],
+) -> bool
+    requires { ⌜ Limits (l .grid) ⌝ }
+    requires { ⌜ (fine ≡ threeAt (medium l (now st)) level) × (coarse ≡ threeAt (medium l (now st)) (suc level)) ⌝ }
+    requires { ⌜ ChainRoom (edgesOn (medium l (now st)) level) (edgesOn (medium l (now st)) (suc level)) from to (now eps) ⌝ }
+    requires { ⌜ (o .s ≤ 2 ^ 32) × (o .k ≤ 2 ^ 32) ⌝ }
+    ensures { λ _. ⌜ now (eps .exit) ≡ laidNumbers (now (eps .entry)) to (tabulate (averagedEps (twoAt (medium l (now (st .entry))) level) (readFrom (now (eps .entry)) from)) (edgesOn (medium l (now (st .entry))) (suc level)) 0) ⌝ }
+    ensures { λ _. ⌜ Turned (stencilRow (latticeAt (medium l (now (st .entry))) (suc level)) (averagedEps (twoAt (medium l (now (st .entry))) level) (readFrom (now (eps .entry)) from))) (edgesOn (medium l (now (st .entry))) (suc level)) (now (ostarts .entry)) (o .s) (now (ocolumns .entry)) (now (ovalues .entry)) (o .k) (now (ostarts .exit)) (now (ocolumns .exit)) (now (ovalues .exit)) ⌝ }
+    ensures { λ b. ⌜ b ≡ (allFinite (tabulate (averagedEps (twoAt (medium l (now (st .entry))) level) (readFrom (now (eps .entry)) from)) (edgesOn (medium l (now (st .entry))) (suc level)) 0) && allFinite (numbersOf (rowsOf (stencilRow (latticeAt (medium l (now (st .entry))) (suc level)) (averagedEps (twoAt (medium l (now (st .entry))) level) (readFrom (now (eps .entry)) from))) (edgesOn (medium l (now (st .entry))) (suc level))))) ⌝ }
+{
+    let known = averaged::averaged_eps(l, st, fine, coarse, eps, from, to);
+    let lc = rediscretized::rediscretized_lattice(l, coarse);
+    let sc = rediscretized::rediscretized_stretches(l, st, coarse);
+    let sound = stencil::assembled(lc, &sc, eps, to, ostarts, o.s, ocolumns, ovalues, o.k);
+    known && sound
 }
