@@ -167,7 +167,7 @@ def main():
     if made.returncode != 0:
         stop("the files don't compile as Rust:\n" + made.stderr)
     # all of it in one of the libraries that the driver links, the others empty
-    for library, members in (("liblattice_c.a", ["unproved.o"]), ("libweights_c.a", []), ("liboperators_c.a", [])):
+    for library, members in (("liblattice_c.a", ["unproved.o"]), ("libweights_c.a", []), ("liboperators_setup.a", [])):
         if os.path.exists(os.path.join(out, library)):
             os.remove(os.path.join(out, library))
         subprocess.run(["ar", "crs", library] + members, cwd=out, check=True)

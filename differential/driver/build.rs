@@ -9,9 +9,9 @@ fn main() {
     }
     // the operators layer, where there is a library of it
     println!("cargo:rustc-check-cfg=cfg(operators)");
-    println!("cargo:rerun-if-changed={folder}/liboperators_c.a");
-    if std::path::Path::new(&folder).join("liboperators_c.a").exists() {
-        println!("cargo:rustc-link-lib=static=operators_c");
+    println!("cargo:rerun-if-changed={folder}/liboperators_setup.a");
+    if std::path::Path::new(&folder).join("liboperators_setup.a").exists() {
+        println!("cargo:rustc-link-lib=static=operators_setup");
         println!("cargo:rustc-cfg=operators");
     }
 }

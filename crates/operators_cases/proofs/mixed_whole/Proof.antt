@@ -1,0 +1,49 @@
+use borrow.Author.Needs.{needs}
+use Prim.Native.Nat.{_-_}
+use Rattle.operators_cases.proofs.mixed_whole.Statement.{statement}
+use Rattle.operators_cases.proofs.mixed_whole.Tie as tie
+
+abbrev Inv-loop : tie.InvT-loop
+Inv-loop first xs d₀ k₀ k-end d k = Unit {0}
+
+abbrev μ-loop : tie.MeasureT-loop
+μ-loop first xs d₀ k₀ k-end d k = k-end - k
+
+loop-holds : tie.Need-loop-holds Inv-loop μ-loop
+loop-holds c = search needs
+
+mul-mixed : tie.Need-mul-mixed Inv-loop μ-loop
+mul-mixed c = search needs
+
+shared-slice-read-mixed : tie.Need-shared-slice-read-mixed Inv-loop μ-loop
+shared-slice-read-mixed c = search needs
+
+mixed-requires : tie.Need-mixed-requires Inv-loop μ-loop
+mixed-requires c κs = search needs
+
+add-k : tie.Need-add-k Inv-loop μ-loop
+add-k c = search needs
+
+loop-less : tie.Need-loop-less Inv-loop μ-loop
+loop-less c = search needs
+
+loop-again : tie.Need-loop-again Inv-loop μ-loop
+loop-again c = search needs
+
+returns : tie.Need-returns Inv-loop μ-loop
+returns c = search needs
+
+pub mixed-whole-spec : {M : Type 1} → statement M
+mixed-whole-spec =
+    tie.close
+    (tie.spec
+    Inv-loop
+    μ-loop
+    loop-holds
+    mul-mixed
+    shared-slice-read-mixed
+    mixed-requires
+    add-k
+    loop-less
+    loop-again
+    returns)
