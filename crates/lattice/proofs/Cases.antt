@@ -4,7 +4,7 @@ use mathlib.Core.Path.{_≡_, refl}
 use mathlib.Core.List.{map}
 use lib.Ieee.{sub, mul, le, ofBits, ofInt}
 use Rattle.numbers.specs.Complex.{zeroNumber, sum, difference, realTimes, squares}
-use Rattle.lattice.specs.Lattice.{tabulate}
+use Rattle.numbers.specs.Lists.{tabulate}
 use Rattle.lattice.specs.Stretched.{mapAt, mapEntry, mapList}
 use Rattle.lattice.specs.Line.{finestEnds, joinsBy, joins, skips, joined, coarserEnds}
 use Rattle.lattice.specs.Levels.{target}

@@ -3,7 +3,7 @@
 -- Assumes nothing.
 use Prim.Native.Nat.{ℕ, suc, _+_, _-_, _*_, _<_, _≤_}
 use mathlib.Core.Path.{_≡_, refl, sym, _∙_, ap}
-use mathlib.Core.Bool.{Bool, true, false, not, _||_, cond}
+use mathlib.Core.Bool.{Bool, true, false, not, _||_, cond, false≢true}
 use mathlib.Core.List.{List, [], _∷_, _++_}
 use native.Mathlib.Omega.{arith}
 use native.Mathlib.Numerals.{add-one}
@@ -16,7 +16,7 @@ use Rattle.numbers.specs.Complex.{finiteDouble}
 use Rattle.numbers.specs.Places.{numberAt}
 use Rattle.lattice.specs.Grid.{Limits, unknownsOf}
 use Rattle.lattice.specs.Lattice.{Lengths}
-use Rattle.lattice.specs.Check.{andThen, isSound, badCells, checkGrid, badLength, badPhase, checkScalars, badNumber, Given, given, stretches, checkLengths, firstBad, checkEntries, checkAll, checkOf, checkStretches}
+use Rattle.lattice.specs.Check.{Verdict, accepted, refused, gridRefused, scalarRefused, lengthRefused, entryRefused, verdictOf, isSound, andThen, badCells, checkGrid, badLength, badPhase, checkScalars, badNumber, Given, given, stretches, checkLengths, firstBad, checkEntries, checkAll, checkOf, checkStretches}
 use Rattle.lattice.specs.declared.grid.Grid3d.{Grid3d}
 use Rattle.lattice.specs.declared.lattice.Lattice.{Lattice}
 use Rattle.lattice.specs.declared.check.Checked.{Checked}
@@ -35,50 +35,53 @@ or-right false b e = e
 
 -- ---- one check behind another
 
--- no answer but Sound is sound
-pub sound-is : (c : Checked) → isSound c ≡ true → c ≡ Sound
-sound-is Sound e = refl
-sound-is (Cells place) e = absurd (let z : _≡_ {A = ℕ} 0 1 = cc in omega arith)
-sound-is (Scalar place) e = absurd (let z : _≡_ {A = ℕ} 0 1 = cc in omega arith)
-sound-is (Length place) e = absurd (let z : _≡_ {A = ℕ} 0 1 = cc in omega arith)
-sound-is (Entry place) e = absurd (let z : _≡_ {A = ℕ} 0 1 = cc in omega arith)
+and-sound : (c d : Verdict) → isSound c ≡ true → andThen c d ≡ d
+and-sound (accepted n) d e = refl
+and-sound (refused number place) d e = absurd (false≢true e)
 
-and-sound : (c d : Checked) → isSound c ≡ true → andThen c d ≡ d
-and-sound c d e = ap (λ (x : Checked). andThen x d) (sound-is c e)
+and-refused : (c d : Verdict) → isSound c ≡ false → andThen c d ≡ c
+and-refused (accepted n) d e = absurd (false≢true (sym e))
+and-refused (refused number place) d e = refl
 
-and-refused : (c d : Checked) → isSound c ≡ false → andThen c d ≡ c
-and-refused Sound d e = absurd (let z : _≡_ {A = ℕ} 0 1 = cc in omega arith)
-and-refused (Cells place) d e = refl
-and-refused (Scalar place) d e = refl
-and-refused (Length place) d e = refl
-and-refused (Entry place) d e = refl
+and-first : (c d : Verdict) → isSound (andThen c d) ≡ true → isSound c ≡ true
+and-first (accepted n) d e = refl
+and-first (refused number place) d e = e
 
-and-first : (c d : Checked) → isSound (andThen c d) ≡ true → isSound c ≡ true
-and-first Sound d e = refl
-and-first (Cells place) d e = e
-and-first (Scalar place) d e = e
-and-first (Length place) d e = e
-and-first (Entry place) d e = e
-
-and-second : (c d : Checked) → isSound (andThen c d) ≡ true → isSound d ≡ true
+and-second : (c d : Verdict) → isSound (andThen c d) ≡ true → isSound d ≡ true
 and-second c d e = rw (and-sound c d (and-first c d e)) at e
 
-and-assoc : (c d e : Checked) → andThen (andThen c d) e ≡ andThen c (andThen d e)
-and-assoc Sound d e = refl
-and-assoc (Cells place) d e = refl
-and-assoc (Scalar place) d e = refl
-and-assoc (Length place) d e = refl
-and-assoc (Entry place) d e = refl
+and-assoc : (c d e : Verdict) → andThen (andThen c d) e ≡ andThen c (andThen d e)
+and-assoc (accepted n) d e = refl
+and-assoc (refused number place) d e = refl
 
--- in code, where the answer a is what the check x says and r whether it is sound: a refusal is handed on, and the next check decides
-pub passed : {r : Bool} {a x : Checked} → a ≡ x → r ≡ isSound a → r ≡ true → isSound x ≡ true
-passed e p q = ap isSound (sym e) ∙ (sym p ∙ q)
+-- in code, where the answer a means what the check x says and r whether it is sound: a refusal is handed on, and the next check decides
+module _ (a : Checked) {r : Bool} {x : Verdict} (e : verdictOf a ≡ x) (p : r ≡ isSound (verdictOf a)) where
+  pub told : {b : Bool} → r ≡ b → isSound x ≡ b
+  told q = ap isSound (sym e) ∙ (sym p ∙ q)
 
-pub hands-on : {r : Bool} {a x : Checked} (d : Checked) → a ≡ x → r ≡ isSound a → r ≡ false → andThen x d ≡ a
-hands-on {x} d e p q = and-refused x d (ap isSound (sym e) ∙ (sym p ∙ q)) ∙ sym e
+  pub hands-on : (d : Verdict) → r ≡ false → andThen x d ≡ verdictOf a
+  hands-on d q = and-refused x d (told q) ∙ sym e
 
-pub goes-on : {r : Bool} {a x : Checked} (d : Checked) → a ≡ x → r ≡ isSound a → r ≡ true → andThen x d ≡ d
-goes-on {x} d e p q = and-sound x d (passed e p q)
+  pub goes-on : (d : Verdict) → r ≡ true → andThen x d ≡ d
+  goes-on d q = and-sound x d (told q)
+
+-- ---- an answer is known by what it means
+
+-- the answer that means a verdict
+abbrev pub checkedOf : Verdict → Checked
+checkedOf (accepted n) = Sound
+checkedOf (refused number place) =
+    cond (eqb number 1) (Cells place) (cond (eqb number 2) (Scalar place) (cond (eqb number 3) (Length place) (Entry place)))
+
+checked-back : (c : Checked) → checkedOf (verdictOf c) ≡ c
+checked-back Sound = refl
+checked-back (Cells place) = refl
+checked-back (Scalar place) = refl
+checked-back (Length place) = refl
+checked-back (Entry place) = refl
+
+pub verdictOf-one : (c d : Checked) → verdictOf c ≡ verdictOf d → c ≡ d
+verdictOf-one c d e = sym (checked-back c) ∙ (ap checkedOf e ∙ checked-back d)
 
 -- ---- the grid
 
@@ -90,18 +93,18 @@ cells-told n e =
     (omega arith, h)
 
 -- a test that leads to a refusal was not met where the answer is sound
-cond-sound : (b : Bool) (d c : Checked) → isSound d ≡ false → isSound (cond b d c) ≡ true → (b ≡ false) × (isSound c ≡ true)
+cond-sound : (b : Bool) (d c : Verdict) → isSound d ≡ false → isSound (cond b d c) ≡ true → (b ≡ false) × (isSound c ≡ true)
 cond-sound true d c h e = absurd (let z : true ≡ false = sym e ∙ h in let o : _≡_ {A = ℕ} 0 1 = cc in omega arith)
 cond-sound false d c h e = (refl, e)
 
 pub limits-are : (g : Grid3d) → isSound (checkGrid g) ≡ true → Limits g
 unfolding checkGrid
 limits-are g e =
-    let d = cond (ltb 4096 (g .nx * g .ny * g .nz)) (Cells 3) Sound in
-    let p = cond-sound (badCells (g .nx)) (Cells 0) (cond (badCells (g .ny)) (Cells 1) (cond (badCells (g .nz)) (Cells 2) d)) refl e in
-    let q = cond-sound (badCells (g .ny)) (Cells 1) (cond (badCells (g .nz)) (Cells 2) d) refl (p .1) in
-    let r = cond-sound (badCells (g .nz)) (Cells 2) d refl (q .1) in
-    let s = cond-sound (ltb 4096 (g .nx * g .ny * g .nz)) (Cells 3) Sound refl (r .1) in
+    let d = cond (ltb 4096 (g .nx * g .ny * g .nz)) (gridRefused 3) (accepted 0) in
+    let p = cond-sound (badCells (g .nx)) (gridRefused 0) (cond (badCells (g .ny)) (gridRefused 1) (cond (badCells (g .nz)) (gridRefused 2) d)) refl e in
+    let q = cond-sound (badCells (g .ny)) (gridRefused 1) (cond (badCells (g .nz)) (gridRefused 2) d) refl (p .1) in
+    let r = cond-sound (badCells (g .nz)) (gridRefused 2) d refl (q .1) in
+    let s = cond-sound (ltb 4096 (g .nx * g .ny * g .nz)) (gridRefused 3) (accepted 0) refl (r .1) in
     let x = cells-told (g .nx) (p .0) in
     let y = cells-told (g .ny) (q .0) in
     let z = cells-told (g .nz) (r .0) in
@@ -118,12 +121,12 @@ limits-are g e =
 -- ---- the scalars
 
 -- tests, one behind the other: the first that is met refuses at its number
-unfoldable pub firstMet : ℕ → List Bool → Checked
-firstMet i [] = Sound
-firstMet i (b ∷ bs) = cond b (Scalar i) (firstMet (suc i) bs)
+unfoldable pub firstMet : ℕ → List Bool → Verdict
+firstMet i [] = accepted 0
+firstMet i (b ∷ bs) = cond b (scalarRefused i) (firstMet (suc i) bs)
 
 module _ (i : ℕ) (b : Bool) (bs : List Bool) where
-  pub test-met : b ≡ true → firstMet i (b ∷ bs) ≡ Scalar i
+  pub test-met : b ≡ true → firstMet i (b ∷ bs) ≡ scalarRefused i
   unfolding firstMet
   test-met e = rw e
 
@@ -147,7 +150,7 @@ scalars-by-test v = refl
 -- ---- lengths of lists
 
 module _ (i n : ℕ) (xs : List Float) (vs : List Given) where
-  pub length-bad : (length xs ≡ 2 * n → ⊥) → checkLengths i (given n xs ∷ vs) ≡ Length i
+  pub length-bad : (length xs ≡ 2 * n → ⊥) → checkLengths i (given n xs ∷ vs) ≡ lengthRefused i
   unfolding checkLengths
   length-bad h = rw (ne-eqb (length xs) (2 * n) h)
 
@@ -159,12 +162,12 @@ module _ (i n : ℕ) (xs : List Float) (vs : List Given) where
   unfolding checkLengths
   length-told e = go (eqb (length xs) (2 * n)) refl e
     where
-      go : (b : Bool) → eqb (length xs) (2 * n) ≡ b → isSound (cond b (checkLengths (suc i) vs) (Length i)) ≡ true
+      go : (b : Bool) → eqb (length xs) (2 * n) ≡ b → isSound (cond b (checkLengths (suc i) vs) (lengthRefused i)) ≡ true
           → (length xs ≡ 2 * n) × (isSound (checkLengths (i + 1) vs) ≡ true)
       go true q e = (eqb-true (length xs) (2 * n) q, rw (add-one i) e)
       go false q e = absurd (let o : _≡_ {A = ℕ} 0 1 = cc in omega arith)
 
-pub lengths-none : (i : ℕ) → checkLengths i [] ≡ Sound
+pub lengths-none : (i : ℕ) → checkLengths i [] ≡ accepted 0
 unfolding checkLengths
 lengths-none i = refl
 
@@ -177,8 +180,8 @@ lengths-append i (v ∷ vs) ws =
     rw (lengths-append (suc i) vs ws, e) (go (eqb (length (v .list)) (2 * v .count)))
   where
     go : (b : Bool)
-        → cond b (andThen (checkLengths (suc i) vs) (checkLengths (i + suc (length vs)) ws)) (Length i)
-        ≡ andThen (cond b (checkLengths (suc i) vs) (Length i)) (checkLengths (i + suc (length vs)) ws)
+        → cond b (andThen (checkLengths (suc i) vs) (checkLengths (i + suc (length vs)) ws)) (lengthRefused i)
+        ≡ andThen (cond b (checkLengths (suc i) vs) (lengthRefused i)) (checkLengths (i + suc (length vs)) ws)
     go true = refl
     go false = refl
 
@@ -190,7 +193,7 @@ counts [] = 0
 counts (v ∷ vs) = v .count + counts vs
 
 module _ (position n : ℕ) (xs : List Float) (vs : List Given) (k : ℕ) (found : k ≡ firstBad xs n 0) where
-  pub entry-bad : k < n → checkEntries position (given n xs ∷ vs) ≡ Entry (position + k)
+  pub entry-bad : k < n → checkEntries position (given n xs ∷ vs) ≡ entryRefused (position + k)
   unfolding checkEntries
   entry-bad h = rw (← found, lt-ltb k n h)
 
@@ -198,7 +201,7 @@ module _ (position n : ℕ) (xs : List Float) (vs : List Given) (k : ℕ) (found
   unfolding checkEntries
   entry-good h = rw (← found, le-ltb k n h)
 
-pub entries-none : (position : ℕ) → checkEntries position [] ≡ Sound
+pub entries-none : (position : ℕ) → checkEntries position [] ≡ accepted 0
 unfolding checkEntries
 entries-none position = refl
 
@@ -211,8 +214,8 @@ entries-append position (v ∷ vs) ws =
     rw (entries-append (position + v .count) vs ws, e) (go (ltb (firstBad (v .list) (v .count) 0) (v .count)))
   where
     go : (b : Bool)
-        → cond b (Entry (position + firstBad (v .list) (v .count) 0)) (andThen (checkEntries (position + v .count) vs) (checkEntries (position + (v .count + counts vs)) ws))
-        ≡ andThen (cond b (Entry (position + firstBad (v .list) (v .count) 0)) (checkEntries (position + v .count) vs)) (checkEntries (position + (v .count + counts vs)) ws)
+        → cond b (entryRefused (position + firstBad (v .list) (v .count) 0)) (andThen (checkEntries (position + v .count) vs) (checkEntries (position + (v .count + counts vs)) ws))
+        ≡ andThen (cond b (entryRefused (position + firstBad (v .list) (v .count) 0)) (checkEntries (position + v .count) vs)) (checkEntries (position + (v .count + counts vs)) ws)
     go true = refl
     go false = refl
 
@@ -294,10 +297,10 @@ module _ (v : Lattice) (xn xh yn yh zn zh : List Float) where
       let one = given (unknownsOf g) eps ∷ [] in
       let e : 0 + (g .nx + (g .nx + (g .ny + (g .ny + (g .nz + (g .nz + 0)))))) ≡ 2 * g .nx + 2 * g .ny + 2 * g .nz = omega arith in
       sym (and-assoc (checkGrid g) (checkScalars v) (andThen (checkLengths 0 (six ++ one)) (checkEntries 0 (six ++ one))))
-      ∙ ap (λ (d : Checked). andThen (andThen (checkGrid g) (checkScalars v)) (andThen d (checkEntries 0 (six ++ one)))) (lengths-append 0 six one)
+      ∙ ap (λ (d : Verdict). andThen (andThen (checkGrid g) (checkScalars v)) (andThen d (checkEntries 0 (six ++ one)))) (lengths-append 0 six one)
       ∙ ap (andThen (andThen (checkGrid g) (checkScalars v)))
       (and-assoc (checkLengths 0 six) (checkLengths 6 one) (checkEntries 0 (six ++ one))
-      ∙ ap (λ (d : Checked). andThen (checkLengths 0 six) (andThen (checkLengths 6 one) d))
+      ∙ ap (λ (d : Verdict). andThen (checkLengths 0 six) (andThen (checkLengths 6 one) d))
       (entries-append 0 six one ∙ ap (λ (k : ℕ). andThen (checkEntries 0 six) (checkEntries k one)) e))
 
   -- a sound input lies within the limits, and its lists are as long as the axes ask
@@ -310,3 +313,19 @@ module _ (v : Lattice) (xn xh yn yh zn zh : List Float) where
       let h : isSound (andThen first second) ≡ true = ap isSound (sym stretches-by-check) ∙ e in
       let l = lengths-are (v .grid) xn xh yn yh zn zh (and-first (checkLengths 0 six) (checkEntries 0 six) (and-second first second h)) in
       (grid-sound v (and-first first second h), l .0, l .1)
+
+  pub all-sound : (eps : List Float) → isSound (checkOf v xn xh yn yh zn zh eps) ≡ true
+      → Limits (v .grid) × Lengths (v .grid) xn yn zn × Lengths (v .grid) xh yh zh × (length eps ≡ 2 * unknownsOf (v .grid))
+  all-sound eps e =
+      let g = v .grid in
+      let six = stretches g xn xh yn yh zn zh in
+      let one = given (unknownsOf g) eps ∷ [] in
+      let a = andThen (checkGrid g) (checkScalars v) in
+      let d = andThen (checkEntries 0 six) (checkEntries (2 * g .nx + 2 * g .ny + 2 * g .nz) one) in
+      let c = andThen (checkLengths 6 one) d in
+      let b = andThen (checkLengths 0 six) c in
+      let h : isSound (andThen a b) ≡ true = ap isSound (sym (all-by-check eps)) ∙ e in
+      let k = and-second a b h in
+      let l = lengths-are g xn xh yn yh zn zh (and-first (checkLengths 0 six) c k) in
+      let m = length-told 6 (unknownsOf g) eps [] (and-first (checkLengths 6 one) d (and-second (checkLengths 0 six) c k)) in
+      (grid-sound v (and-first a b h), l .0, l .1, m .0)

@@ -39,13 +39,12 @@ use Rattle.lattice.specs.Grid.{
   Limits,
   Inside,
 }
-use Rattle.lattice.specs.Lattice.{edgesOf}
+use Rattle.lattice.specs.Lattice.{edgesOf, FullLattice}
 use Rattle.lattice.specs.Neighbours.{pastHigh, pastLow, shifted, arrived, neighbourOf}
 use Rattle.lattice.specs.declared.grid.Grid3d.{Grid3d}
 use Rattle.lattice.specs.declared.grid.Position.{Position}
 use Rattle.lattice.specs.declared.lattice.Edges.{Edges}
 use Rattle.lattice.specs.declared.lattice.Edges.the-variants.{Pml, Bloch}
-use Rattle.lattice.specs.Lattice.{Medium}
 use Rattle.lattice.specs.declared.neighbours.Arrival.{Arrival}
 use Rattle.lattice.specs.declared.neighbours.Arrival.the-variants.{To, Beyond}
 
@@ -222,15 +221,15 @@ shift-below e n m true k w h q = go (ltb (m + 1) n) e refl q
     go : (b : Bool) (e : Edges) → ltb (m + 1) n ≡ b → cond b (To (m + 1) oneNumber) (pastHigh e) ≡ To k w → k < n
     go true e f q = let z : m + 1 ≡ k = cc in omega (arith, ltb-true (m + 1) n f)
     go false Pml f q = let z : _≡_ {A = ℕ} 0 1 = cc in omega arith
-    go false (Bloch re im) f q = let z : 0 ≡ k = cc in omega arith
+    go false (Bloch p) f q = let z : 0 ≡ k = cc in omega arith
 shift-below e n m false k w h q = go (eqb m 0) e q
   where
     go : (b : Bool) (e : Edges) → cond b (pastLow e n) (To (m - 1) oneNumber) ≡ To k w → k < n
     go true Pml q = let z : _≡_ {A = ℕ} 0 1 = cc in omega arith
-    go true (Bloch re im) q = let z : n - 1 ≡ k = cc in omega arith
+    go true (Bloch p) q = let z : n - 1 ≡ k = cc in omega arith
     go false e q = let z : m - 1 ≡ k = cc in omega arith
 
-pub neighbour-below : (l : Medium) (p : Position) (a : ℕ) (up : Bool) (c : ℕ) (w : C64)
+pub neighbour-below : (l : FullLattice) (p : Position) (a : ℕ) (up : Bool) (c : ℕ) (w : C64)
     → Limits (l .grid)
     → Inside (l .grid) p
     → neighbourOf l p a up ≡ To c w

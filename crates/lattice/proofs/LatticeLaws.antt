@@ -14,11 +14,12 @@ use Rattle.numbers.specs.Complex.{zeroNumber, noNumber}
 use Rattle.numbers.specs.Places.{places, numberAt, setNumber, foundAt}
 use Rattle.numbers.proofs.Laws.{length-setNumber, number-same, number-other, found-held}
 use Rattle.lattice.specs.Grid.{axis3, nOf}
-use Rattle.lattice.specs.Lattice.{Medium, medium, tabulate, nodesAt, halvesAt, halfNo, stretchAt, latticeOf, Lengths, LaidStretches}
+use Rattle.lattice.specs.Lattice.{fullLattice, nodesAt, halvesAt, halfNo, stretchAt, latticeOf, Lengths, LaidStretches}
 use Rattle.lattice.specs.declared.lattice.Lattice.{Lattice}
 use Rattle.lattice.specs.declared.grid.Grid3d.{Grid3d}
 use Rattle.lattice.proofs.GridLaws.{axis-first, axis-second, axis-third}
-use Rattle.lattice.proofs.TabulateLaws.{tabulate-at-0, tabulate-agree, Filled, filled-start}
+use Rattle.numbers.proofs.TabulateLaws.{tabulate-at-0, tabulate-agree, Filled, filled-start}
+use Rattle.numbers.proofs.Equations.{places-is}
 
 -- the list of an axis has the numbers below the axis's cells
 module _ {g : Grid3d} {xs ys zs : List Float} (l : Lengths g xs ys zs) (a m : ℕ) (h : m < nOf g a) where
@@ -60,11 +61,11 @@ filled-first {A} {f} {z} {d} {y} {n} e = subst (λ (x : A). Filled f z d n 0 (re
 -- ---- the list of stretches
 
 -- the record's stretches are those of the list
-pub node-is : (l : Lattice) (st : List Float) (a m : ℕ) → a < 3 → m < 64 → foundAt st (64 * a + m) ≡ nodesAt (medium l st) a m
+pub node-is : (l : Lattice) (st : List Float) (a m : ℕ) → a < 3 → m < 64 → foundAt st (64 * a + m) ≡ nodesAt (fullLattice l st) a m
 unfolding nodesAt
 node-is l st a m h b = sym (tabulate-at-0 (foundAt st) 192 (64 * a + m) noNumber (omega arith))
 
-pub half-is : (l : Lattice) (st : List Float) (a m : ℕ) → a < 3 → m < 64 → foundAt st (192 + 64 * a + m) ≡ halvesAt (medium l st) a m
+pub half-is : (l : Lattice) (st : List Float) (a m : ℕ) → a < 3 → m < 64 → foundAt st (192 + 64 * a + m) ≡ halvesAt (fullLattice l st) a m
 unfolding halvesAt
 half-is l st a m h b =
     let e : 192 + 64 * a + m ≡ 192 + (64 * a + m) = omega arith in
@@ -76,7 +77,6 @@ laid-start f from xs =
 
 pub laid-turn : {f : ℕ → C64} {from q : ℕ} {xs ys : List Float} {v : C64} → LaidStretches f from q xs ys → v ≡ f q
     → LaidStretches f from (q + 1) xs (setNumber ys (from + q) v)
-unfolding places
 laid-turn {f} {from} {q} {xs} {ys} {v} l e =
     record {
       long = length-setNumber ys (from + q) v ∙ l .long;
@@ -88,15 +88,15 @@ laid-turn {f} {from} {q} {xs} {ys} {v} l e =
     go : (k : ℕ) → k < q + 1 → from + k < places xs → Dec (k ≡ q) → numberAt (setNumber ys (from + q) v) (from + k) ≡ f k
     go k h b (yes o) =
         subst (λ (j : ℕ). numberAt (setNumber ys (from + q) v) (from + j) ≡ f j) (sym o)
-        (number-same ys (from + q) v (omega (arith, l .long)) ∙ e)
+        (number-same ys (from + q) v (omega (arith, l .long, places-is xs, places-is ys)) ∙ e)
     go k h b (no n) = number-other ys (from + q) (from + k) v (omega arith) ∙ l .inside k (omega arith) b
 
 -- both halves of the list make the record of the six lists
 module _ (v : Lattice) (xn xh yn yh zn zh : List Float) where
-  pub medium-is : {xs ys zs : List Float} → length xs ≡ 768 → LaidStretches (stretchAt (v .grid) xn yn zn) 0 192 xs ys
-      → LaidStretches (stretchAt (v .grid) xh yh zh) 192 192 ys zs → (length zs ≡ 768) × (medium v zs ≡ latticeOf v xn xh yn yh zn zh)
-  unfolding latticeOf places
-  medium-is {xs} {ys} {zs} e a b = (
+  pub fullLattice-is : {xs ys zs : List Float} → length xs ≡ 768 → LaidStretches (stretchAt (v .grid) xn yn zn) 0 192 xs ys
+      → LaidStretches (stretchAt (v .grid) xh yh zh) 192 192 ys zs → (length zs ≡ 768) × (fullLattice v zs ≡ latticeOf v xn xh yn yh zn zh)
+  unfolding latticeOf
+  fullLattice-is {xs} {ys} {zs} e a b = (
     long,
     λ i.
         record {
@@ -120,7 +120,7 @@ module _ (v : Lattice) (xn xh yn yh zn zh : List Float) where
           first : (k : ℕ) → k < 192 → numberAt ys k ≡ stretchAt (v .grid) xn yn zn k
           first k h =
               let o : 0 + k ≡ k = omega arith in
-              subst (λ (j : ℕ). numberAt ys j ≡ stretchAt (v .grid) xn yn zn k) o (a .inside k h (omega (arith, e)))
+              subst (λ (j : ℕ). numberAt ys j ≡ stretchAt (v .grid) xn yn zn k) o (a .inside k h (omega (arith, e, places-is xs)))
 
       high : (k : ℕ) → k < 192 → halfNo zs k ≡ stretchAt (v .grid) xh yh zh k
-      high k h = sym (found-held zs (192 + k) (omega (arith, long))) ∙ b .inside k h (omega (arith, a .long, e))
+      high k h = sym (found-held zs (192 + k) (omega (arith, long))) ∙ b .inside k h (omega (arith, a .long, e, places-is ys))

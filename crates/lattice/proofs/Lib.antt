@@ -1,10 +1,8 @@
 pub mod GridLaws
 pub mod LatticeLaws
 pub mod NeighbourLaws
-pub mod TermLaws
 pub mod RowLaws
 pub mod Yee
-pub mod TabulateLaws
 pub mod MapLaws
 pub mod LineLaws
 pub mod CheckLaws
@@ -12,3 +10,10 @@ pub mod LevelLaws
 pub mod TargetLaws
 pub mod Modulus
 pub mod Cases
+pub mod Equations
+pub mod NestLaws
+pub mod PlaceLaws
+pub mod CurlLaws
+pub mod ColumnLaws
+pub mod EdgeSums
+pub mod ThreeLaws

@@ -1,6 +1,6 @@
 -- Laws of lines: what a record holds, rising, the finest line, joining, and the numbers of a coarse line's nodes on a fine one.
 -- Assumes nothing.
-use Prim.Native.Nat.{ℕ, zero, suc, _+_, _-_, _*_, _<_, _≤_, suc-le-suc, min}
+use Prim.Native.Nat.{ℕ, zero, suc, _+_, _-_, _*_, _<_, _≤_, min}
 use native.Mathlib.Nat.{le-of-suc-le-suc, not-suc-le-zero}
 use native.Mathlib.Decide.{decLe, decLt}
 use native.Mathlib.Numerals.{add-one}
@@ -8,17 +8,20 @@ use native.Mathlib.Omega.{arith}
 use mathlib.Core.Path.{_≡_, refl, sym, ap, _∙_, subst}
 use mathlib.Core.Bool.{Bool, true, false, cond, _&&_}
 use mathlib.Core.List.{List, [], _∷_, _++_, append-nil}
-use borrow.Author.Tests.{ltb-true, leb-true, lt-ltb, le-ltb, le-leb, lt-leb}
-use lib.Dec.{ltb, leb}
+use borrow.Author.Tests.{leb-true, lt-ltb, le-ltb, le-leb, lt-leb}
+use lib.Dec.{leb}
 use lib.ListN.{length, getD, take, drop, set, replicate, length-append, length-replicate, length-take, length-drop, length-set, getD-replicate, take-append-drop, drop-of-length-le, List·getD-append}
 use lib.Seq.{take-at, getD-take, getD-drop, drop-cons, getD-set-other, take-suc-set, append-snoc, length-take-le}
 use lib.Ieee.{Float}
 use Rattle.numbers.specs.declared.C64.{C64}
 use Rattle.numbers.specs.Complex.{noNumber}
 use Rattle.lattice.specs.declared.line.Line.{Line}
-use Rattle.lattice.specs.Lattice.{tabulate}
-use Rattle.lattice.specs.Line.{packed, endsOf, twice, finestEnds, joinsBy, joins, skips, joined, coarserEnds, nextBy, nextEnd, before, nodesOf, Rises, LineOver, Held}
-use Rattle.lattice.proofs.TabulateLaws.{length-tabulate, tabulate-at-0, is-tabulate, is-replicate, Filled, filled-start, filled-turn, filled-end}
+use Rattle.numbers.specs.Lists.{tabulate, before, Rises}
+use Rattle.lattice.specs.Line.{packed, endsOf, twice, finestEnds, joinsBy, joins, skips, joined, coarserEnds, nextBy, nextEnd, nodesOf, LineOver, Held}
+use Rattle.numbers.proofs.TabulateLaws.{length-tabulate, tabulate-at-0, is-tabulate, is-replicate, Filled, filled-start, filled-turn, filled-end}
+use Rattle.numbers.proofs.ListLaws.{rises-last, rises-one, rises-nil, rises-cons, rises-head, rises-below, rises-tail}
+use Rattle.numbers.proofs.Equations.{tabulate-zero, tabulate-suc}
+use Rattle.numbers.proofs.ElementLaws.{before-is, before-most, before-below}
 
 -- ---- what a record holds
 
@@ -49,35 +52,6 @@ packed-is {k} {ends} es h e =
 
 -- ---- rising
 
--- the first end is below the others
-rises-first : (a : ℕ) (es : List ℕ) → Rises (a ∷ es) → (j : ℕ) → j < length es → a < getD es j 0
-unfolding Rises
-rises-first a [] r j h = absurd (not-suc-le-zero h)
-rises-first a (b ∷ es) r zero h = r .0
-rises-first a (b ∷ es) r (suc j) h =
-    let k : b < getD es j 0 = rises-first b es (r .1) j (le-of-suc-le-suc h) in
-    omega (arith, r .0)
-
-rises-tail : (a : ℕ) (es : List ℕ) → Rises (a ∷ es) → Rises es
-unfolding Rises
-rises-tail a [] r = tt
-rises-tail a (b ∷ es) r = r .1
-
--- an earlier end is below a later one
-pub rises-below : (es : List ℕ) → Rises es → (i j : ℕ) → i < j → j < length es → getD es i 0 < getD es j 0
-rises-below [] r i j a b = absurd (not-suc-le-zero b)
-rises-below (e ∷ es) r i zero a b = absurd (not-suc-le-zero a)
-rises-below (e ∷ es) r zero (suc j) a b = rises-first e es r j (le-of-suc-le-suc b)
-rises-below (e ∷ es) r (suc i) (suc j) a b = rises-below es (rises-tail e es r) i j (le-of-suc-le-suc a) (le-of-suc-le-suc b)
-
--- none is above the last
-rises-last : (es : List ℕ) → Rises es → (i : ℕ) → i < length es → getD es i 0 ≤ getD es (length es - 1) 0
-rises-last es r i h = go (decLt i (length es - 1))
-  where
-    go : Dec (i < length es - 1) → getD es i 0 ≤ getD es (length es - 1) 0
-    go (yes b) = let k : getD es i 0 < getD es (length es - 1) 0 = rises-below es r i (length es - 1) b (omega arith) in omega arith
-    go (no b) = let e : i ≡ length es - 1 = omega arith in rw e (omega arith)
-
 -- a line over at most 64 cells of the finest grid can be held
 pub over-held : (n : ℕ) (es : List ℕ) → n ≤ 64 → LineOver n es → Held (packed es)
 unfolding packed
@@ -94,10 +68,11 @@ over-held n es h p =
 -- ---- the finest line
 
 rises-twice : (n k : ℕ) → Rises (tabulate twice n k)
-unfolding Rises tabulate
-rises-twice zero k = tt
-rises-twice (suc zero) k = tt
-rises-twice (suc (suc n)) k = (omega arith, rises-twice (suc n) (suc k))
+rises-twice zero k = rw (tabulate-zero twice k) rises-nil
+rises-twice (suc zero) k = rw (tabulate-suc twice 0 k, tabulate-zero twice (suc k)) (rises-one (twice k))
+rises-twice (suc (suc n)) k =
+    let ih : Rises (twice (suc k) ∷ tabulate twice n (suc (suc k))) = rw (tabulate-suc twice n (suc k)) at (rises-twice (suc n) (suc k)) in
+    rw (tabulate-suc twice (suc n) k, tabulate-suc twice n (suc k)) (rises-cons (twice k) (twice (suc k)) (tabulate twice n (suc (suc k))) (omega arith) ih)
 
 pub finest-over : (n : ℕ) → 0 < n → n ≤ 64 → LineOver n (finestEnds n)
 unfolding finestEnds
@@ -143,11 +118,15 @@ module _ (x : List C64) (t : Float) where
   joined-last d true (b ∷ (c ∷ es)) h = joined-last c (skips x t c es) es (skips-two c es)
 
   joined-rises : (a : ℕ) (pass : Bool) (es : List ℕ) → Rises (a ∷ es) → Rises (a ∷ joined x t pass es)
-  unfolding joined Rises
-  joined-rises a pass [] r = tt
-  joined-rises a false (b ∷ es) r = (r .0, joined-rises b (skips x t b es) es (r .1))
-  joined-rises a true (b ∷ []) r = tt
-  joined-rises a true (b ∷ (c ∷ es)) r = (omega (arith, r .0, r .1 .0), joined-rises c (skips x t c es) es (r .1 .1))
+  unfolding joined
+  joined-rises a pass [] r = rises-one a
+  joined-rises a false (b ∷ es) r =
+      rises-cons a b (joined x t (skips x t b es) es) (rises-head a b es r) (joined-rises b (skips x t b es) es (rises-tail a (b ∷ es) r))
+  joined-rises a true (b ∷ []) r = rises-one a
+  joined-rises a true (b ∷ (c ∷ es)) r =
+      let s : Rises (b ∷ (c ∷ es)) = rises-tail a (b ∷ (c ∷ es)) r in
+      rises-cons a c (joined x t (skips x t c es) es) (omega (arith, rises-head a b (c ∷ es) r, rises-head b c es s))
+      (joined-rises c (skips x t c es) es (rises-tail b (c ∷ es) s))
 
   joined-shorter : (pass : Bool) (es : List ℕ) → length (joined x t pass es) ≤ length es
   unfolding joined
@@ -363,16 +342,6 @@ joining-end {x} {t} {es} {m} {k} {ends} p h b c =
 
 -- ---- the ends before a place
 
--- the first q are below e, and one that follows is not
-pub before-is : (e : ℕ) (es : List ℕ) (q : ℕ) → q ≤ length es → ((m : ℕ) → m < q → getD es m 0 < e) → (q < length es → e ≤ getD es q 0)
-    → before e es ≡ q
-unfolding before
-before-is e [] q h a b = omega arith
-before-is e (f ∷ es) zero h a b = rw (le-ltb f e (b (omega arith)))
-before-is e (f ∷ es) (suc q) h a b =
-    rw (lt-ltb f e (a 0 (omega arith)))
-    (ap suc (before-is e es q (le-of-suc-le-suc h) (λ m c. a (suc m) (suc-le-suc c)) (λ c. b (suc-le-suc c))))
-
 -- the same, by a record's ends
 pub before-held : {l : Line} → Held l → (e q : ℕ) → q ≤ l .cells + 1 → ((m : ℕ) → m < q → getD (l .ends) m 0 < e)
     → (q < l .cells + 1 → e ≤ getD (l .ends) q 0) → q ≡ before e (endsOf l)
@@ -382,26 +351,6 @@ before-held {l} p e q h a b =
     (before-is e (endsOf l) q (omega arith)
     (λ m c. rw (ends-at l m (omega arith)) (a m c))
     (λ c. rw (ends-at l q (omega arith)) (b (omega arith))))
-
-pub before-most : (e : ℕ) (es : List ℕ) → before e es ≤ length es
-unfolding before
-before-most e [] = omega arith
-before-most e (f ∷ es) = go (ltb f e) (before-most e es)
-  where
-    go : (s : Bool) → before e es ≤ length es → cond s (suc (before e es)) 0 ≤ suc (length es)
-    go true h = suc-le-suc h
-    go false h = omega arith
-
-pub before-below : (e : ℕ) (es : List ℕ) (m : ℕ) → m < before e es → getD es m 0 < e
-unfolding before
-before-below e [] m h = absurd (not-suc-le-zero h)
-before-below e (f ∷ es) m h = go (ltb f e) refl m h (before-below e es)
-  where
-    go : (s : Bool) → ltb f e ≡ s → (m : ℕ) → m < cond s (suc (before e es)) 0 → ((m : ℕ) → m < before e es → getD es m 0 < e)
-        → getD (f ∷ es) m 0 < e
-    go false q m h r = absurd (not-suc-le-zero h)
-    go true q zero h r = ltb-true f e q
-    go true q (suc m) h r = r m (le-of-suc-le-suc h)
 
 -- ---- the numbers of a coarse line's nodes on a fine one
 

@@ -11,7 +11,7 @@ use lib.ListN.{getD, set, replicate}
 use Rattle.numbers.specs.declared.C64.{C64}
 use Rattle.numbers.specs.Complex.{zeroNumber, noNumber, sum, realTimes}
 use Rattle.lattice.specs.Stretched.{halfF, mapAt, mapEntry, mapList}
-use Rattle.lattice.proofs.TabulateLaws.{is-tabulate, Filled, filled-start, filled-same, filled-turn}
+use Rattle.numbers.proofs.TabulateLaws.{is-tabulate, Filled, filled-start, filled-same, filled-turn}
 
 pub record Mapping (s : ℕ → C64) (p : ℕ) (x : List C64) (here : C64) : Type 0 where
   pub at : here ≡ mapAt s p

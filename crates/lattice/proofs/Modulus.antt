@@ -27,6 +27,7 @@ use Rattle.lattice.specs.Line.{joinsBy, joins}
 use Rattle.lattice.specs.Levels.{target}
 use Rattle.lattice.specs.Modulus.{absF}
 use Rattle.lattice.proofs.TargetLaws.{squared, target-value, square-value, square-exact}
+use Rattle.numbers.proofs.Equations.{squares-is, difference-is}
 
 same-test : (a b : Bool) → (T a → T b) → (T b → T a) → a ≡ b
 same-test true true h k = refl
@@ -268,8 +269,7 @@ module _ (L : ℕ) (l : L < 12) where
 
   -- with no imaginary part, the test of the squares is that of the modulus
   pub modulus : (z : C64) → T (fits binary64 (z .re)) → eq (z .im) zeroF ≡ true → le (squares z) (mulF (target L) (target L)) ≡ le (absF (z .re)) (target L)
-  unfolding squares
-  modulus z f h = rw (zero-square (z .im) h) (agree (z .re) f)
+  modulus z f h = rw (squares-is z, zero-square (z .im) h) (agree (z .re) f)
 
   -- the joining test, for any map
   pub joins-modulus : (x : List C64) (a c : ℕ) → eq (difference (getD x c noNumber) (getD x a noNumber) .im) zeroF ≡ true
@@ -278,4 +278,4 @@ module _ (L : ℕ) (l : L < 12) where
   joins-modulus x a c h = modulus (difference (getD x c noNumber) (getD x a noNumber)) (difference-fits (getD x c noNumber) (getD x a noNumber)) h
     where
       difference-fits : (y z : C64) → T (fits binary64 (difference y z .re))
-      difference-fits y z = unfold difference in sub-fits binary64 (y .re) (z .re)
+      difference-fits y z = rw (difference-is y z) (sub-fits binary64 (y .re) (z .re))

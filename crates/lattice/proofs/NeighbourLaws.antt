@@ -1,20 +1,20 @@
 -- Laws for the code of neighbours and walls: each branch gives what the definition says.
 -- Assumes nothing.
 use Prim.Native.Nat.{ℕ, _+_, _-_, _<_, _≤_}
-use mathlib.Core.Path.{_≡_, sym, _∙_, ap}
-use mathlib.Core.Bool.{Bool, true, false, not, _&&_, _||_}
+use mathlib.Core.Path.{_≡_, refl, sym, _∙_, ap}
+use mathlib.Core.Bool.{Bool, true, false, not, _&&_, _||_, false≢true}
 use borrow.Author.Tests.{lt-ltb, le-ltb, eq-eqb, ne-eqb}
 use lib.Dec.{eqb}
 use Rattle.numbers.specs.declared.C64.{C64}
 use Rattle.numbers.proofs.Laws.{or-true, or-false}
 use Rattle.numbers.specs.Complex.{oneNumber}
 use Rattle.lattice.specs.Grid.{nOf, placeOn, movedTo, atOf, Inside}
-use Rattle.lattice.specs.Lattice.{edgesOf, isWall}
+use Rattle.lattice.specs.Lattice.{edgesOf, isWall, FullLattice}
 use Rattle.lattice.specs.Neighbours.{pastHigh, pastLow, shifted, arrived, neighbourOf, onWall}
 use Rattle.lattice.specs.declared.grid.Grid3d.{Grid3d}
 use Rattle.lattice.specs.declared.grid.Position.{Position}
 use Rattle.lattice.specs.declared.lattice.Edges.{Edges}
-use Rattle.lattice.specs.Lattice.{Medium}
+use Rattle.lattice.specs.declared.lattice.Edges.the-variants.{Pml, Bloch}
 use Rattle.lattice.specs.declared.neighbours.Arrival.{Arrival}
 use Rattle.lattice.specs.declared.neighbours.Arrival.the-variants.{To}
 use Rattle.lattice.proofs.GridLaws.{place-inside, moved-inside, shift-below}
@@ -38,7 +38,16 @@ module _ (e : Edges) (n m : ℕ) (up : Bool) where
   unfolding shifted
   shift-low u h = rw (u, eq-eqb m 0 h)
 
-pub neighbour-is : (l : Medium) (p : Position) (a : ℕ) (up : Bool) {e : Edges} {n m : ℕ} {s : Arrival}
+-- past an end of a Bloch axis lies a place, with some phase
+pub past-high : (e : Edges) → isWall e ≡ false → (w : C64) × (pastHigh e ≡ To 0 w)
+past-high Pml h = absurd (false≢true (sym h))
+past-high (Bloch p) h = (_, refl)
+
+pub past-low : (e : Edges) (n : ℕ) → isWall e ≡ false → (w : C64) × (pastLow e n ≡ To (n - 1) w)
+past-low Pml n h = absurd (false≢true (sym h))
+past-low (Bloch p) n h = (_, refl)
+
+pub neighbour-is : (l : FullLattice) (p : Position) (a : ℕ) (up : Bool) {e : Edges} {n m : ℕ} {s : Arrival}
     → e ≡ edgesOf l a
     → n ≡ nOf (l .grid) a
     → m ≡ placeOn p a
@@ -62,7 +71,7 @@ step-inside {g} {p} {k = k} {w = w} a e up f q r h t =
 
 -- ---- walls
 
-module _ (l : Medium) (p : Position) (a m : ℕ) (place : m ≡ placeOn p a) where
+module _ (l : FullLattice) (p : Position) (a m : ℕ) (place : m ≡ placeOn p a) where
   pub wall-at : m ≡ 0 → isWall (edgesOf l a) ≡ onWall l p a
   unfolding onWall
   wall-at h = rw (← place, eq-eqb m 0 h)
@@ -71,7 +80,7 @@ module _ (l : Medium) (p : Position) (a m : ℕ) (place : m ≡ placeOn p a) whe
   unfolding onWall
   wall-off h = rw (← place, ne-eqb m 0 h)
 
-pub wall-node : (l : Medium) (q a : ℕ) {p : Position} {b : Bool} → p ≡ atOf (l .grid) q → b ≡ onWall l p a → b ≡ onWall l (atOf (l .grid) q) a
+pub wall-node : (l : FullLattice) (q a : ℕ) {p : Position} {b : Bool} → p ≡ atOf (l .grid) q → b ≡ onWall l p a → b ≡ onWall l (atOf (l .grid) q) a
 wall-node l q a e h = h ∙ ap (λ p. onWall l p a) e
 
 -- ---- a test of an axis other than the component, and one test after another

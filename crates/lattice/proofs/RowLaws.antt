@@ -1,7 +1,7 @@
 -- The rows' lists of terms: how long they are, that their columns are edges of the lattice, what of the permittivities they read.
 -- Assumes nothing.
 use Prim.Native.Nat.{ℕ, suc, _+_, _^_, _<_, _≤_}
-use mathlib.Core.Path.{_≡_, refl, ap}
+use mathlib.Core.Path.{_≡_, refl, ap, sym, _∙_}
 use mathlib.Core.Bool.{Bool, true, false, cond}
 use mathlib.Core.List.{List, [], _∷_, _++_, append-nil, List·Memᴰ as In, List·Memᴰ·head as head, List·Memᴰ·tail as tail, Memᴰ·append-left, Memᴰ·append-right}
 use native.Mathlib.Omega.{arith}
@@ -15,18 +15,22 @@ use lib.Ieee.{Float, binary64, ofInt, inFloat}
 use Rattle.numbers.specs.declared.C64.{C64}
 use Rattle.numbers.specs.Complex.{mulF, negF, oneF, zeroNumber, oneNumber, sum, negation, realOver, overReal, product, realTimes}
 use Rattle.lattice.specs.Grid.{unknownsOf, Limits, Inside, withComponent, atOf, nextAxis, lastAxis}
-use Rattle.lattice.specs.Terms.{Term, columnsOf, each}
+use Rattle.numbers.specs.Terms.{Term, columnsOf}
+use Rattle.numbers.specs.Lists.{each, summed}
 use Rattle.lattice.specs.Neighbours.{neighbourOf, isFixed, isNodeFixed}
 use Rattle.lattice.specs.Curls.{minusOneF, halfWeight, nodeWeight, termTo, termHere, ahead, behind, curlEAt, curlE, curlHAt, curlH, divergenceOf, freeNodes, gradientAt, gradientOf}
-use Rattle.lattice.specs.Rows.{faceTerm, faceTerms, curlCurl, freeOf, freeColumns, summed, freeSum, mean, nodeEps, nodeTerm, nodeTerms, gradDiv, rowInto, freeColumnsOf, rowReads}
+use Rattle.lattice.specs.Rows.{faceTerm, faceTerms, curlCurl, freeOf, freeColumns, freeSum, mean, nodeEps, nodeTerm, nodeTerms, gradDiv, rowInto, freeColumnsOf, rowReads}
 use Rattle.lattice.specs.declared.grid.Grid3d.{Grid3d}
 use Rattle.lattice.specs.declared.grid.Position.{Position}
-use Rattle.lattice.specs.Lattice.{Medium}
+use Rattle.lattice.specs.Lattice.{FullLattice}
 use Rattle.lattice.specs.declared.rows.Sum.{Sum}
 use Rattle.lattice.specs.declared.neighbours.Arrival.{Arrival}
 use Rattle.lattice.specs.declared.neighbours.Arrival.the-variants.{To, Beyond}
 use Rattle.lattice.proofs.GridLaws.{at-inside, index-below, with-inside, next-low, last-low, neighbour-below}
-use Rattle.lattice.proofs.TermLaws.{Low, none, more, low-append, low-each, each-most, Holds, columns-held}
+use Rattle.numbers.proofs.TermLaws.{Low, none, more, low-append, low-each, each-most, Holds, columns-held}
+use Rattle.numbers.proofs.LoopLaws.{summed-local}
+use Rattle.numbers.proofs.Equations.{each-nil, each-cons, columnsOf-cons, summed-nil}
+use Rattle.numbers.proofs.ElementLaws.{summed-append}
 
 -- ---- positions, as the code has them
 
@@ -42,28 +46,28 @@ pub to-most : (to : Arrival) (w : C64) → length (termTo to w) ≤ 1
 to-most Beyond w = omega arith
 to-most (To c phase) w = omega arith
 
-pub here-most : (l : Medium) (p : Position) (c : ℕ) (w : C64) → length (termHere l p c w) ≤ 1
+pub here-most : (l : FullLattice) (p : Position) (c : ℕ) (w : C64) → length (termHere l p c w) ≤ 1
 unfolding termHere
 here-most l p c w = omega arith
 
 append-most : {A : Type 0} (s t : List A) (m n : ℕ) → length s ≤ m → length t ≤ n → length (s ++ t) ≤ m + n
 append-most s t m n g h = omega (arith, length-append s t)
 
-pub ahead-most : (l : Medium) (p : Position) (along field : ℕ) (sign : Float) → length (ahead l p along field sign) ≤ 2
+pub ahead-most : (l : FullLattice) (p : Position) (along field : ℕ) (sign : Float) → length (ahead l p along field sign) ≤ 2
 unfolding ahead
 ahead-most l p along field sign =
     let w = halfWeight l p along sign in
     let to = neighbourOf l (withComponent p field) along true in
     append-most (termTo to w) (termHere l p field (negation w)) 1 1 (to-most to w) (here-most l p field (negation w))
 
-pub behind-most : (l : Medium) (p : Position) (along field : ℕ) (sign : Float) → length (behind l p along field sign) ≤ 2
+pub behind-most : (l : FullLattice) (p : Position) (along field : ℕ) (sign : Float) → length (behind l p along field sign) ≤ 2
 unfolding behind
 behind-most l p along field sign =
     let w = nodeWeight l p along sign in
     let to = neighbourOf l (withComponent p field) along false in
     append-most (termHere l p field w) (termTo to (negation w)) 1 1 (here-most l p field w) (to-most to (negation w))
 
-pub curl-e-most : (l : Medium) (r : ℕ) → length (curlE l r) ≤ 4
+pub curl-e-most : (l : FullLattice) (r : ℕ) → length (curlE l r) ≤ 4
 unfolding curlE curlEAt
 curl-e-most l r =
     let p = atOf (l .grid) r in
@@ -71,7 +75,7 @@ curl-e-most l r =
     let c = lastAxis (p .component) in
     append-most (ahead l p b c oneF) (ahead l p c b minusOneF) 2 2 (ahead-most l p b c oneF) (ahead-most l p c b minusOneF)
 
-pub curl-h-most : (l : Medium) (r : ℕ) → length (curlH l r) ≤ 4
+pub curl-h-most : (l : FullLattice) (r : ℕ) → length (curlH l r) ≤ 4
 unfolding curlH curlHAt
 curl-h-most l r =
     let p = atOf (l .grid) r in
@@ -79,7 +83,7 @@ curl-h-most l r =
     let c = lastAxis (p .component) in
     append-most (behind l p b c oneF) (behind l p c b minusOneF) 2 2 (behind-most l p b c oneF) (behind-most l p c b minusOneF)
 
-pub divergence-most : (l : Medium) (q : ℕ) → length (divergenceOf l q) ≤ 6
+pub divergence-most : (l : FullLattice) (q : ℕ) → length (divergenceOf l q) ≤ 6
 unfolding divergenceOf
 divergence-most l q =
     let p = atOf (l .grid) q in
@@ -92,7 +96,7 @@ cond-most : (b : Bool) (t : Term) → length (cond b [] (t ∷ [])) ≤ 1
 cond-most true t = omega arith
 cond-most false t = omega arith
 
-free-shorter : (l : Medium) (ts : List Term) → length (freeNodes l ts) ≤ length ts
+free-shorter : (l : FullLattice) (ts : List Term) → length (freeNodes l ts) ≤ length ts
 unfolding freeNodes
 free-shorter l [] = omega arith
 free-shorter l (t ∷ ts) = go (isNodeFixed l (t .column)) (free-shorter l ts)
@@ -101,10 +105,10 @@ free-shorter l (t ∷ ts) = go (isNodeFixed l (t .column)) (free-shorter l ts)
     go true h = omega arith
     go false h = omega arith
 
-pub free-most : (l : Medium) (ts : List Term) → length ts ≤ 1 → length (freeNodes l ts) ≤ 1
+pub free-most : (l : FullLattice) (ts : List Term) → length ts ≤ 1 → length (freeNodes l ts) ≤ 1
 free-most l ts h = omega (arith, free-shorter l ts)
 
-pub gradient-most : (l : Medium) (r : ℕ) → length (gradientOf l r) ≤ 2
+pub gradient-most : (l : FullLattice) (r : ℕ) → length (gradientOf l r) ≤ 2
 unfolding gradientOf gradientAt
 gradient-most l r =
     let p = atOf (l .grid) r in
@@ -114,33 +118,33 @@ gradient-most l r =
     append-most (freeNodes l t) (freeNodes l h) 1 1 (free-most l t (to-most (neighbourOf l (withComponent p 0) (p .component) true) w))
     (free-most l h (here-most l p 0 (negation w)))
 
-pub face-term-most : (l : Medium) (wh : C64) (t : Term) → length (faceTerm l wh t) ≤ 1
+pub face-term-most : (l : FullLattice) (wh : C64) (t : Term) → length (faceTerm l wh t) ≤ 1
 unfolding faceTerm
 face-term-most l wh t = cond-most (isFixed l (t .column)) _
 
-pub node-term-most : (l : Medium) (f : ℕ → C64) (wg inverse : C64) (t : Term) → length (nodeTerm l f wg inverse t) ≤ 1
+pub node-term-most : (l : FullLattice) (f : ℕ → C64) (wg inverse : C64) (t : Term) → length (nodeTerm l f wg inverse t) ≤ 1
 unfolding nodeTerm
 node-term-most l f wg inverse t = cond-most (isFixed l (t .column)) _
 
-pub face-terms-most : (l : Medium) (t : Term) → length (faceTerms l t) ≤ 4
+pub face-terms-most : (l : FullLattice) (t : Term) → length (faceTerms l t) ≤ 4
 unfolding faceTerms
 face-terms-most l t = omega (arith, each-most (faceTerm l (t .number)) 1 (face-term-most l (t .number)) (curlE l (t .column)), curl-e-most l (t .column))
 
-pub node-terms-most : (l : Medium) (f : ℕ → C64) (t : Term) → length (nodeTerms l f t) ≤ 6
+pub node-terms-most : (l : FullLattice) (f : ℕ → C64) (t : Term) → length (nodeTerms l f t) ≤ 6
 unfolding nodeTerms
 node-terms-most l f t =
     let v = realOver oneF (nodeEps l f (t .column)) in
     omega (arith, each-most (nodeTerm l f (t .number) v) 1 (node-term-most l f (t .number) v) (divergenceOf l (t .column)), divergence-most l (t .column))
 
-pub curl-curl-most : (l : Medium) (r : ℕ) → length (curlCurl l r) ≤ 16
+pub curl-curl-most : (l : FullLattice) (r : ℕ) → length (curlCurl l r) ≤ 16
 unfolding curlCurl
 curl-curl-most l r = omega (arith, each-most (faceTerms l) 4 (face-terms-most l) (curlH l r), curl-h-most l r)
 
-pub grad-div-most : (l : Medium) (f : ℕ → C64) (r : ℕ) → length (gradDiv l f r) ≤ 12
+pub grad-div-most : (l : FullLattice) (f : ℕ → C64) (r : ℕ) → length (gradDiv l f r) ≤ 12
 unfolding gradDiv
 grad-div-most l f r = omega (arith, each-most (nodeTerms l f) 6 (node-terms-most l f) (gradientOf l r), gradient-most l r)
 
-pub row-most : (l : Medium) (f : ℕ → C64) (r : ℕ) → length (rowInto l f r) ≤ 29
+pub row-most : (l : FullLattice) (f : ℕ → C64) (r : ℕ) → length (rowInto l f r) ≤ 29
 unfolding rowInto
 row-most l f r = go (isFixed l r)
   where
@@ -154,7 +158,7 @@ low-kept : {b : ℕ} {ts : List Term} (left-out : Bool) (t : Term) → t .column
 low-kept true t p u = u
 low-kept false t p u = more p u
 
-module _ (l : Medium) (h : Limits (l .grid)) where
+module _ (l : FullLattice) (h : Limits (l .grid)) where
   low-to : {p : Position} (a : ℕ) (up : Bool) (w : C64) → Inside (l .grid) p → Low (unknownsOf (l .grid)) (termTo (neighbourOf l p a up) w)
   low-to {p} a up w i = go (neighbourOf l p a up) refl
     where
@@ -230,7 +234,7 @@ module _ (l : Medium) (h : Limits (l .grid)) where
 
 -- ---- sums over the edges that are not fixed
 
-free-append : (l : Medium) (cs : List ℕ) (c : ℕ) → freeOf l (cs ++ (c ∷ [])) ≡ freeOf l cs ++ cond (isFixed l c) [] (c ∷ [])
+free-append : (l : FullLattice) (cs : List ℕ) (c : ℕ) → freeOf l (cs ++ (c ∷ [])) ≡ freeOf l cs ++ cond (isFixed l c) [] (c ∷ [])
 unfolding freeOf
 free-append l [] c = refl
 free-append l (d ∷ cs) c = go (isFixed l d) (free-append l cs c)
@@ -240,7 +244,7 @@ free-append l (d ∷ cs) c = go (isFixed l d) (free-append l cs c)
     go true e = e
     go false e = ap (λ (es : List ℕ). d ∷ es) e
 
-free-most-of : (l : Medium) (cs : List ℕ) → length (freeOf l cs) ≤ length cs
+free-most-of : (l : FullLattice) (cs : List ℕ) → length (freeOf l cs) ≤ length cs
 unfolding freeOf
 free-most-of l [] = omega arith
 free-most-of l (c ∷ cs) = go (isFixed l c) (free-most-of l cs)
@@ -249,26 +253,21 @@ free-most-of l (c ∷ cs) = go (isFixed l c) (free-most-of l cs)
     go true h = omega arith
     go false h = omega arith
 
-summed-append : (f : ℕ → C64) (s : C64) (cs : List ℕ) (c : ℕ) → summed f s (cs ++ (c ∷ [])) ≡ sum (summed f s cs) (f c)
-unfolding summed
-summed-append f s [] c = refl
-summed-append f s (d ∷ cs) c = summed-append f (sum s (f d)) cs c
-
-free-more : (l : Medium) (cs : List ℕ) (m : ℕ) → m < length cs
+free-more : (l : FullLattice) (cs : List ℕ) (m : ℕ) → m < length cs
     → freeOf l (take (m + 1) cs) ≡ freeOf l (take m cs) ++ cond (isFixed l (getD cs m 0)) [] (getD cs m 0 ∷ [])
 free-more l cs m h = rw (add-one m, take-suc cs m 0 h) (free-append l (take m cs) (getD cs m 0))
 
 -- a loop that sums over the first n edges of a list, m of them done
-pub record Summing (l : Medium) (f : ℕ → C64) (cs : List ℕ) (n : ℕ) (total : C64) (count m : ℕ) : Type 0 where
+pub record Summing (l : FullLattice) (f : ℕ → C64) (cs : List ℕ) (n : ℕ) (total : C64) (count m : ℕ) : Type 0 where
   pub high : m ≤ n
   pub few : count ≤ m
   pub total-is : total ≡ summed f zeroNumber (freeOf l (take m cs))
   pub count-is : count ≡ length (freeOf l (take m cs))
 
-module _ {l : Medium} {f : ℕ → C64} {cs : List ℕ} {n : ℕ} where
+module _ {l : FullLattice} {f : ℕ → C64} {cs : List ℕ} {n : ℕ} where
   pub summing-start : {total : C64} → total ≡ zeroNumber → Summing l f cs n total 0 0
-  unfolding freeOf summed
-  summing-start e = record { high = omega arith; few = omega arith; total-is = e; count-is = refl }
+  unfolding freeOf
+  summing-start e = record { high = omega arith; few = omega arith; total-is = e ∙ sym (summed-nil f zeroNumber); count-is = refl }
 
   pub summing-fixed : {total : C64} {count m : ℕ} → Summing l f cs n total count m → m < n → n ≤ length cs
       → isFixed l (getD cs m 0) ≡ true → Summing l f cs n total count (m + 1)
@@ -301,7 +300,7 @@ module _ {l : Medium} {f : ℕ → C64} {cs : List ℕ} {n : ℕ} where
 -- ---- the mean over them
 
 -- the parts of a sum
-module _ (l : Medium) (f : ℕ → C64) (cs : List ℕ) {s : Sum} (e : s ≡ freeSum l f cs) where
+module _ (l : FullLattice) (f : ℕ → C64) (cs : List ℕ) {s : Sum} (e : s ≡ freeSum l f cs) where
   pub count-of : s .count ≡ length (freeOf l cs)
   unfolding freeSum
   count-of = ap (λ (t : Sum). t .count) e
@@ -322,7 +321,7 @@ module _ (l : Medium) (f : ℕ → C64) (cs : List ℕ) {s : Sum} (e : s ≡ fre
   count-most n h = omega (arith, count-of, free-most-of l cs)
 
 -- the mean over the columns of the divergence's terms, as two lists hold them
-pub mean-held : (l : Medium) (f : ℕ → C64) (q : ℕ) {b n : ℕ} {cs : List ℕ} {xs : List Float}
+pub mean-held : (l : FullLattice) (f : ℕ → C64) (q : ℕ) {b n : ℕ} {cs : List ℕ} {xs : List Float}
     → Holds b (divergenceOf l q) cs xs n → mean f (freeOf l (take n cs)) ≡ nodeEps l f q
 unfolding nodeEps freeColumns
 mean-held l f q e = ap (λ (ds : List ℕ). mean f (freeOf l ds)) (columns-held e)
@@ -334,21 +333,18 @@ small-float n h = rw (le-leb n (2 ^ 53) (omega arith)) tt
 
 -- ---- locality: a row sees of the permittivities only what stands at the positions that it reads
 
-module _ (l : Medium) (f g : ℕ → C64) where
-  summed-local : (cs : List ℕ) (s : C64) → ((c : ℕ) → In c cs → f c ≡ g c) → summed f s cs ≡ summed g s cs
-  unfolding summed
-  summed-local [] s h = refl
-  summed-local (c ∷ cs) s h = rw (h c (head refl)) (summed-local cs (sum s (g c)) (λ d m. h d (tail m)))
-
+module _ (l : FullLattice) (f g : ℕ → C64) where
   eps-local : (q : ℕ) → ((c : ℕ) → In c (freeColumns l q) → f c ≡ g c) → nodeEps l f q ≡ nodeEps l g q
   unfolding nodeEps mean
-  eps-local q h = rw (summed-local (freeColumns l q) zeroNumber h)
+  eps-local q h = rw (summed-local f g (freeColumns l q) zeroNumber h)
 
   term-local : (wg inverse : C64) (ts : List Term) → ((c : ℕ) → In c (freeOf l (columnsOf ts)) → f c ≡ g c)
       → each (nodeTerm l f wg inverse) ts ≡ each (nodeTerm l g wg inverse) ts
-  unfolding each columnsOf freeOf nodeTerm
-  term-local wg inverse [] h = refl
-  term-local wg inverse (t ∷ ts) h = go (isFixed l (t .column)) h (term-local wg inverse ts)
+  unfolding freeOf nodeTerm
+  term-local wg inverse [] h = rw (each-nil (nodeTerm l f wg inverse), each-nil (nodeTerm l g wg inverse))
+  term-local wg inverse (t ∷ ts) h =
+      rw (each-cons (nodeTerm l f wg inverse) t ts, each-cons (nodeTerm l g wg inverse) t ts)
+      (go (isFixed l (t .column)) (rw (columnsOf-cons t ts) at h) (term-local wg inverse ts))
     where
       go : (b : Bool) → ((c : ℕ) → In c (cond b (freeOf l (columnsOf ts)) (t .column ∷ freeOf l (columnsOf ts))) → f c ≡ g c)
           → (((c : ℕ) → In c (freeOf l (columnsOf ts)) → f c ≡ g c) → each (nodeTerm l f wg inverse) ts ≡ each (nodeTerm l g wg inverse) ts)
@@ -365,13 +361,14 @@ module _ (l : Medium) (f g : ℕ → C64) where
   terms-local t h = rw (eps-local (t .column) h) (term-local (t .number) (realOver oneF (nodeEps l g (t .column))) (divergenceOf l (t .column)) h)
 
   nodes-local : (ts : List Term) → ((c : ℕ) → In c (each (freeColumnsOf l) ts) → f c ≡ g c) → each (nodeTerms l f) ts ≡ each (nodeTerms l g) ts
-  unfolding each
-  nodes-local [] h = refl
+  nodes-local [] h = rw (each-nil (nodeTerms l f), each-nil (nodeTerms l g))
   nodes-local (t ∷ ts) h =
-      λ i. terms-local t (λ c m. h c (Memᴰ·append-left (each (freeColumnsOf l) ts) m)) i
-      ++ nodes-local ts (λ c m. h c (Memᴰ·append-right (freeColumnsOf l t) m)) i
+      let k : (c : ℕ) → In c (freeColumnsOf l t ++ each (freeColumnsOf l) ts) → f c ≡ g c = rw (each-cons (freeColumnsOf l) t ts) at h in
+      rw (each-cons (nodeTerms l f) t ts, each-cons (nodeTerms l g) t ts)
+      (λ i. terms-local t (λ c m. k c (Memᴰ·append-left (each (freeColumnsOf l) ts) m)) i
+      ++ nodes-local ts (λ c m. k c (Memᴰ·append-right (freeColumnsOf l t) m)) i)
 
-pub row-local : (l : Medium) (f g : ℕ → C64) (r : ℕ) → ((c : ℕ) → In c (rowReads l r) → f c ≡ g c) → rowInto l f r ≡ rowInto l g r
+pub row-local : (l : FullLattice) (f g : ℕ → C64) (r : ℕ) → ((c : ℕ) → In c (rowReads l r) → f c ≡ g c) → rowInto l f r ≡ rowInto l g r
 unfolding rowInto rowReads gradDiv
 row-local l f g r = go (isFixed l r)
   where

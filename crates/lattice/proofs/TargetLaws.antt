@@ -1,6 +1,6 @@
 -- The target of a level is exact: 3 2^L for each of the 12 levels, and its square 9 4^L, so that the joining test compares with the square itself.
 -- Assumes nothing.
-use Prim.Native.Nat.{ℕ, zero, suc, _+_, _*_, _^_, _≤_, _<_}
+use Prim.Native.Nat.{ℕ, zero, suc, _*_, _^_, _≤_, _<_}
 use mathlib.Core.Path.{_≡_, refl}
 use mathlib.Core.Bool.{false}
 use mathlib.Core.List.{List, _∷_}
@@ -12,25 +12,10 @@ use lib.Ieee.{Float, binary64, ofBits, ofInt, mul}
 use lib.Ieee.Exact.{HasValue}
 use lib.Ieee.Back.{round-whole}
 use Rattle.numbers.specs.Complex.{mulF}
-use Rattle.lattice.specs.Lattice.{tabulate}
+use Rattle.numbers.specs.Lists.{tabulate}
 use Rattle.lattice.specs.Levels.{target}
-
--- ---- from a table to each of its places
-
-tabulated : (f g : ℕ → Float) (n k : ℕ) → tabulate f n k ≡ tabulate g n k → (L j : ℕ) → L < n → j ≡ L + k → f j ≡ g j
-unfolding tabulate
-tabulated f g zero k e L j h p = absurd (none h)
-  where
-    none : L < 0 → ⊥
-    none h = omega arith
-tabulated f g (suc n) k e zero j h p = let q : j ≡ k = omega arith in rw q (head (f k) (g k) e)
-  where
-    head : (a b : Float) {xs ys : List Float} → (a ∷ xs) ≡ (b ∷ ys) → a ≡ b
-    head a b e = cc
-tabulated f g (suc n) k e (suc L) j h p = tabulated f g n (suc k) (tail e) L j (omega arith) (omega arith)
-  where
-    tail : {a b : Float} {xs ys : List Float} → (a ∷ xs) ≡ (b ∷ ys) → xs ≡ ys
-    tail e = cc
+use Rattle.numbers.proofs.Equations.{tabulate-suc, tabulate-zero}
+use Rattle.numbers.proofs.TabulateLaws.{tabulated, tabulate-twelve}
 
 -- ---- the target and its square
 
@@ -44,12 +29,12 @@ abbrev pub squared : ℕ → Float
 squared L = mulF (target L) (target L)
 
 target-table : tabulate target 12 0 ≡ tabulate triple 12 0
-unfolding tabulate target ofBits ofInt mul
-target-table = refl
+unfolding target ofBits ofInt mul
+target-table = rw (tabulate-twelve target, tabulate-twelve triple)
 
 square-table : tabulate squared 12 0 ≡ tabulate ninefold 12 0
-unfolding tabulate target ofBits ofInt mul
-square-table = refl
+unfolding target ofBits ofInt mul
+square-table = rw (tabulate-twelve squared, tabulate-twelve ninefold)
 
 pub target-exact : (L : ℕ) → L < 12 → target L ≡ ofInt binary64 (pos (3 * 2 ^ L))
 target-exact L h = tabulated target triple 12 0 target-table L L h (omega arith)

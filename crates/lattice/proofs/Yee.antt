@@ -24,7 +24,7 @@ use borrow.Author.Tests.{ltb-false, eqb-true, eqb-false, eq-eqb, ne-eqb}
 use lib.Dec.{eqb, ltb}
 use lib.Ieee.{Float}
 use Rattle.numbers.specs.declared.C64.{C64}
-use Rattle.numbers.specs.Complex.{oneF, oneNumber, conjugate}
+use Rattle.numbers.specs.Complex.{oneF, oneNumber}
 use Rattle.lattice.specs.Grid.{
   axis3,
   nOf,
@@ -39,19 +39,21 @@ use Rattle.lattice.specs.Grid.{
   Limits,
   Inside,
 }
-use Rattle.lattice.specs.Lattice.{edgesOf, isWall}
-use Rattle.lattice.specs.Terms.{Term, columnsOf}
+use Rattle.lattice.specs.Lattice.{edgesOf, isWall, FullLattice}
+use Rattle.numbers.specs.Terms.{Term, columnsOf}
 use Rattle.lattice.specs.Neighbours.{pastHigh, pastLow, shifted, arrived, neighbourOf}
 use Rattle.lattice.specs.Curls.{minusOneF, termTo, termHere, ahead, behind, curlEAt, curlHAt, curlE, curlH}
 use Rattle.lattice.specs.Yee.{ePlace, hPlace, HalfStep, plus, minus, plus-period, minus-period, Around}
 use Rattle.lattice.specs.declared.grid.Position.{Position}
 use Rattle.lattice.specs.declared.lattice.Edges.{Edges}
 use Rattle.lattice.specs.declared.lattice.Edges.the-variants.{Pml, Bloch}
-use Rattle.lattice.specs.Lattice.{Medium}
 use Rattle.lattice.specs.declared.neighbours.Arrival.{Arrival}
 use Rattle.lattice.specs.declared.neighbours.Arrival.the-variants.{To, Beyond}
 use Rattle.lattice.proofs.GridLaws.{axis-each, place-inside, moved-inside, with-inside, shift-below, at-inside}
-use Rattle.lattice.proofs.NeighbourLaws.{shift-up, shift-high, shift-down, shift-low}
+use Rattle.lattice.proofs.CurlLaws.{to-column, here-column}
+use Rattle.lattice.proofs.NeighbourLaws.{shift-up, shift-high, shift-down, shift-low, past-high, past-low}
+use Rattle.numbers.proofs.EachLaws.{columns-append}
+use Rattle.numbers.proofs.Equations.{columnsOf-nil}
 
 -- ---- axes and positions
 
@@ -115,20 +117,16 @@ position-is e h = λ n. record { component = e n; i = h 0 (omega arith) n; j = h
 
 -- ---- half-steps on one axis: where a step ends, or where it starts
 
-data Reach (l : Medium) (a : ℕ) (up : Bool) (m k : ℕ) : Type 0 where
+data Reach (l : FullLattice) (a : ℕ) (up : Bool) (m k : ℕ) : Type 0 where
   here : m ≡ k → Reach l a up m k
   there : (w : C64) → shifted (edgesOf l a) (nOf (l .grid) a) m up ≡ To k w → Reach l a up m k
 
 -- from a face's place up to an edge's, or from an edge's down to a face's
-abbrev Half : Medium → ℕ → Bool → ℕ → ℕ → Type 0
+abbrev Half : FullLattice → ℕ → Bool → ℕ → ℕ → Type 0
 Half l a true m k = HalfStep l a (2 * m + 1) (2 * k)
 Half l a false m k = HalfStep l a (2 * k + 1) (2 * m)
 
-bloch : (e : Edges) → isWall e ≡ false → (re : Float) × (im : Float) × (e ≡ Bloch re im)
-bloch Pml h = let z : _≡_ {A = ℕ} 0 1 = cc in absurd (omega arith)
-bloch (Bloch re im) h = (re, im, refl)
-
-module _ (l : Medium) (a m k : ℕ) (mine : m < nOf (l .grid) a) where
+module _ (l : FullLattice) (a m k : ℕ) (mine : m < nOf (l .grid) a) where
   step-half : (up : Bool) (w : C64) → shifted (edgesOf l a) (nOf (l .grid) a) m up ≡ To k w → Half l a up m k
   unfolding shifted
   step-half true w q = go (ltb (m + 1) (nOf (l .grid) a)) (edgesOf l a) refl refl q
@@ -140,7 +138,7 @@ module _ (l : Medium) (a m k : ℕ) (mine : m < nOf (l .grid) a) where
           → HalfStep l a (2 * m + 1) (2 * k)
       go true e f d q = let z : m + 1 ≡ k = cc in plus (omega arith)
       go false Pml f d q = let z : _≡_ {A = ℕ} 0 1 = cc in absurd (omega arith)
-      go false (Bloch re im) f d q =
+      go false (Bloch p) f d q =
           let z : 0 ≡ k = cc in
           plus-period (ap isWall d) (omega (arith, ltb-false (m + 1) (nOf (l .grid) a) f))
   step-half false w q = go (eqb m 0) (edgesOf l a) refl refl q
@@ -151,7 +149,7 @@ module _ (l : Medium) (a m k : ℕ) (mine : m < nOf (l .grid) a) where
           → cond b (pastLow e (nOf (l .grid) a)) (To (m - 1) oneNumber) ≡ To k w
           → HalfStep l a (2 * k + 1) (2 * m)
       go true Pml f d q = let z : _≡_ {A = ℕ} 0 1 = cc in absurd (omega arith)
-      go true (Bloch re im) f d q =
+      go true (Bloch p) f d q =
           let z : nOf (l .grid) a - 1 ≡ k = cc in
           plus-period (ap isWall d) (omega (arith, eqb-true m 0 f))
       go false e f d q = let z : m - 1 ≡ k = cc in plus (omega (arith, eqb-false m 0 f))
@@ -169,11 +167,8 @@ module _ (l : Medium) (a m k : ℕ) (mine : m < nOf (l .grid) a) where
   half-reach true h (minus e) = here (omega arith)
   half-reach true h (plus-period b e) =
       let z : 0 ≡ k = omega arith in
-      let s = bloch (edgesOf l a) b in
-      there (record { re = s .0; im = s .1 })
-      (sym (shift-high (edgesOf l a) (nOf (l .grid) a) m true refl (omega arith))
-      ∙ ap pastHigh (s .2)
-      ∙ ap (λ n. To n (record { re = s .0; im = s .1 })) z)
+      let s = past-high (edgesOf l a) b in
+      there (s .0) (sym (shift-high (edgesOf l a) (nOf (l .grid) a) m true refl (omega arith)) ∙ s .1 ∙ ap (λ n. To n (s .0)) z)
   half-reach true h (minus-period b e) = absurd (omega arith)
   half-reach false h (plus e) =
       let z : m - 1 ≡ k = omega arith in
@@ -181,11 +176,8 @@ module _ (l : Medium) (a m k : ℕ) (mine : m < nOf (l .grid) a) where
   half-reach false h (minus e) = here (omega arith)
   half-reach false h (plus-period b e) =
       let z : nOf (l .grid) a - 1 ≡ k = omega arith in
-      let s = bloch (edgesOf l a) b in
-      there (conjugate (record { re = s .0; im = s .1 }))
-      (sym (shift-low (edgesOf l a) (nOf (l .grid) a) m false refl (omega arith))
-      ∙ ap (λ e. pastLow e (nOf (l .grid) a)) (s .2)
-      ∙ ap (λ n. To n (conjugate (record { re = s .0; im = s .1 }))) z)
+      let s = past-low (edgesOf l a) (nOf (l .grid) a) b in
+      there (s .0) (sym (shift-low (edgesOf l a) (nOf (l .grid) a) m false refl (omega arith)) ∙ s .1 ∙ ap (λ n. To n (s .0)) z)
   half-reach false h (minus-period b e) = absurd (omega arith)
 
   reach-below : (up : Bool) → Reach l a up m k → k < nOf (l .grid) a
@@ -216,7 +208,7 @@ abbrev Level : ℕ → Position → Position → Type 0
 Level t p q = (a : ℕ) → a < 3 → (a ≡ t → ⊥) → placeOn p a ≡ placeOn q a
 
 -- a face and an edge, by their places
-module _ (l : Medium) (p q : Position) (t : ℕ) (x : Axes (p .component) (q .component) t) where
+module _ (l : FullLattice) (p q : Position) (t : ℕ) (x : Axes (p .component) (q .component) t) where
   around-level : Around l p q → Level t p q
   around-level r a h n = go (ℕ-discrete a (p .component))
     where
@@ -250,15 +242,15 @@ axes-turn : {c f t : ℕ} → Axes c f t → Axes f c t
 axes-turn x = omega arith
 
 -- p is a face and q an edge around it, or the other way round
-abbrev Round : Medium → Bool → Position → Position → Type 0
+abbrev Round : FullLattice → Bool → Position → Position → Type 0
 Round l true p q = Around l p q
 Round l false p q = Around l q p
 
-round-differ : (l : Medium) (p q : Position) (up : Bool) → Round l up p q → p .component ≡ q .component → ⊥
+round-differ : (l : FullLattice) (p q : Position) (up : Bool) → Round l up p q → p .component ≡ q .component → ⊥
 round-differ l p q true r e = r .differ e
 round-differ l p q false r e = r .differ (sym e)
 
-module _ (l : Medium) (p q : Position) (t : ℕ) (x : Axes (p .component) (q .component) t) where
+module _ (l : FullLattice) (p q : Position) (t : ℕ) (x : Axes (p .component) (q .component) t) where
   round-level : (up : Bool) → Round l up p q → Level t p q
   round-level true r = around-level l p q t x r
   round-level false r = λ a h n. sym (around-level l q p t (axes-turn x) r a h n)
@@ -273,11 +265,6 @@ module _ (l : Medium) (p q : Position) (t : ℕ) (x : Axes (p .component) (q .co
 
 -- ---- the columns of a difference
 
-columns-append : (s t : List Term) → columnsOf (s ++ t) ≡ columnsOf s ++ columnsOf t
-unfolding columnsOf
-columns-append [] t = refl
-columns-append (u ∷ s) t = ap (λ cs. u .column ∷ cs) (columns-append s t)
-
 append-in : (s t : List Term) (c : ℕ) → In c (columnsOf (s ++ t)) ↔ (In c (columnsOf s) ⊎ In c (columnsOf t))
 append-in s t c = (
   λ h. In-cases (columnsOf s) (rw columns-append at h),
@@ -285,30 +272,31 @@ append-in s t c = (
 )
 
 -- the columns of field f's difference along axis t: those of the places that a step reaches, its start among them
-abbrev Hit : Medium → Position → ℕ → ℕ → Bool → ℕ → Type 0
+abbrev Hit : FullLattice → Position → ℕ → ℕ → Bool → ℕ → Type 0
 Hit l p t f up c = (k : ℕ) × Reach l t up (placeOn p t) k × (indexOf (l .grid) (movedTo (withComponent p f) t k) ≡ c)
 
-module _ (l : Medium) (p : Position) (t f c : ℕ) (up : Bool) where
+module _ (l : FullLattice) (p : Position) (t f c : ℕ) (up : Bool) where
   here-hit : (w : C64) → In c (columnsOf (termHere l p f w)) → Hit l p t f up c
-  unfolding termHere columnsOf placeOn withComponent
+  unfolding placeOn withComponent
   here-hit w h =
-      (placeOn p t, here refl, ap (indexOf (l .grid)) (moved-here (withComponent p f) t) ∙ sym (In-single h))
+      let k : In c (indexOf (l .grid) (withComponent p f) ∷ []) = rw (here-column l p f w) at h in
+      (placeOn p t, here refl, ap (indexOf (l .grid)) (moved-here (withComponent p f) t) ∙ sym (In-single k))
 
   to-hit : (w : C64) → In c (columnsOf (termTo (neighbourOf l (withComponent p f) t up) w)) → Hit l p t f up c
-  unfolding neighbourOf columnsOf placeOn withComponent
+  unfolding neighbourOf placeOn withComponent
   to-hit w h = go (shifted (edgesOf l t) (nOf (l .grid) t) (placeOn p t) up) refl h
     where
       go : (s : Arrival)
           → shifted (edgesOf l t) (nOf (l .grid) t) (placeOn p t) up ≡ s
           → In c (columnsOf (termTo (arrived l (withComponent p f) t s) w))
           → Hit l p t f up c
-      go Beyond e h = absurd (In-none h)
-      go (To k v) e h = (k, there v e, sym (In-single h))
+      go Beyond e h = absurd (In-none (rw columnsOf-nil at h))
+      go (To k v) e h = (k, there v e, sym (In-single (rw (to-column (indexOf (l .grid) (movedTo (withComponent p f) t k)) v w) at h)))
 
   hit-in : (w v : C64)
       → Hit l p t f up c
       → In c (columnsOf (termHere l p f w)) ⊎ In c (columnsOf (termTo (neighbourOf l (withComponent p f) t up) v))
-  unfolding neighbourOf termHere columnsOf placeOn withComponent
+  unfolding neighbourOf placeOn withComponent
   hit-in w v h = go (h .0) (h .1) (h .2)
     where
       go : (k : ℕ)
@@ -316,19 +304,19 @@ module _ (l : Medium) (p : Position) (t f c : ℕ) (up : Bool) where
           → indexOf (l .grid) (movedTo (withComponent p f) t k) ≡ c
           → In c (columnsOf (termHere l p f w)) ⊎ In c (columnsOf (termTo (neighbourOf l (withComponent p f) t up) v))
       go k (here d) e =
-          inl (In-head (sym e
+          inl (rw (here-column l p f w) (In-head (sym e
           ∙ ap (λ n. indexOf (l .grid) (movedTo (withComponent p f) t n)) (sym d)
-          ∙ ap (indexOf (l .grid)) (moved-here (withComponent p f) t)))
-      go k (there u d) e = inr (rw d (In-head (sym e)))
+          ∙ ap (indexOf (l .grid)) (moved-here (withComponent p f) t))))
+      go k (there u d) e = inr (rw (d, to-column (indexOf (l .grid) (movedTo (withComponent p f) t k)) u v) (In-head (sym e)))
 
-ahead-in : (l : Medium) (p : Position) (t f c : ℕ) (s : Float) → In c (columnsOf (ahead l p t f s)) ↔ Hit l p t f true c
+ahead-in : (l : FullLattice) (p : Position) (t f c : ℕ) (s : Float) → In c (columnsOf (ahead l p t f s)) ↔ Hit l p t f true c
 unfolding ahead
 ahead-in l p t f c s = (
   λ h. ⊎-elim (to-hit l p t f c true _) (here-hit l p t f c true _) (append-in _ _ c .0 h),
   λ h. append-in _ _ c .1 (⊎-swap (hit-in l p t f c true _ _ h)),
 )
 
-behind-in : (l : Medium) (p : Position) (t f c : ℕ) (s : Float) → In c (columnsOf (behind l p t f s)) ↔ Hit l p t f false c
+behind-in : (l : FullLattice) (p : Position) (t f c : ℕ) (s : Float) → In c (columnsOf (behind l p t f s)) ↔ Hit l p t f false c
 unfolding behind
 behind-in l p t f c s = (
   λ h. ⊎-elim (here-hit l p t f c false _) (to-hit l p t f c false _) (append-in _ _ c .0 h),
@@ -337,10 +325,10 @@ behind-in l p t f c s = (
 
 -- ---- what a difference reads lies around, and the other way round
 
-abbrev Found : Medium → Bool → Position → ℕ → Type 0
+abbrev Found : FullLattice → Bool → Position → ℕ → Type 0
 Found l up p c = (q : Position) × Inside (l .grid) q × (indexOf (l .grid) q ≡ c) × Round l up p q
 
-module _ (l : Medium) (p : Position) (inside : Inside (l .grid) p) (up : Bool) (c : ℕ) where
+module _ (l : FullLattice) (p : Position) (inside : Inside (l .grid) p) (up : Bool) (c : ℕ) where
   hit-found : (t f : ℕ) → Axes (p .component) f t → Hit l p t f up c → Found l up p c
   unfolding placeOn withComponent
   hit-found t f x (k, r, e) =
@@ -417,7 +405,7 @@ module _ (l : Medium) (p : Position) (inside : Inside (l .grid) p) (up : Bool) (
 -- ---- the theorems
 
 -- Yee: the curl of E at face r has a column for exactly the edges around the face
-pub yee-face : (l : Medium) (r c : ℕ)
+pub yee-face : (l : FullLattice) (r c : ℕ)
     → Limits (l .grid)
     → r < unknownsOf (l .grid)
     → (In c (columnsOf (curlE l r)) ↔ ((q : Position) × Inside (l .grid) q × (indexOf (l .grid) q ≡ c) × Around l (atOf (l .grid) r) q))
@@ -427,7 +415,7 @@ yee-face l r c h f =
     differences l p (at-inside h r f) true c _ _ (ahead-in l p _ _ c oneF) (ahead-in l p _ _ c minusOneF)
 
 -- Yee: the curl of H at edge r has a column for exactly the faces around the edge
-pub yee-edge : (l : Medium) (r c : ℕ)
+pub yee-edge : (l : FullLattice) (r c : ℕ)
     → Limits (l .grid)
     → r < unknownsOf (l .grid)
     → (In c (columnsOf (curlH l r)) ↔ ((q : Position) × Inside (l .grid) q × (indexOf (l .grid) q ≡ c) × Around l q (atOf (l .grid) r)))

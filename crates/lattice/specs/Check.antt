@@ -18,38 +18,54 @@ use Rattle.lattice.specs.declared.lattice.Lattice.{Lattice}
 use Rattle.lattice.specs.declared.check.Checked.{Checked}
 use Rattle.lattice.specs.declared.check.Checked.the-variants.{Sound, Cells, Scalar, Length, Entry}
 
--- ---- what an answer says: accepted, or the refusal's number and place
+-- ---- what an answer says: accepted, with the number that the call answers (0 for a check, the level count for the levels), or the refusal's number
+-- and place
 
 pub data Verdict : Type 0 where
-  accepted : Verdict
+  accepted : ℕ → Verdict
   refused : ℕ → ℕ → Verdict
 
-abbrev pub verdictOf : Checked → Verdict
-verdictOf Sound = accepted
-verdictOf (Cells place) = refused 1 place
-verdictOf (Scalar place) = refused 2 place
-verdictOf (Length place) = refused 3 place
-verdictOf (Entry place) = refused 4 place
+-- the refusals of this layer by number, each at a place
+abbrev pub gridRefused : ℕ → Verdict
+gridRefused = refused 1
 
--- the first refusal of two checks, one behind the other
-abbrev pub andThen : Checked → Checked → Checked
-andThen Sound d = d
-andThen (Cells place) d = Cells place
-andThen (Scalar place) d = Scalar place
-andThen (Length place) d = Length place
-andThen (Entry place) d = Entry place
+abbrev pub scalarRefused : ℕ → Verdict
+scalarRefused = refused 2
+
+abbrev pub lengthRefused : ℕ → Verdict
+lengthRefused = refused 3
+
+abbrev pub entryRefused : ℕ → Verdict
+entryRefused = refused 4
+
+-- what the checks' answers mean
+abbrev pub verdictOf : Checked → Verdict
+verdictOf Sound = accepted 0
+verdictOf (Cells place) = gridRefused place
+verdictOf (Scalar place) = scalarRefused place
+verdictOf (Length place) = lengthRefused place
+verdictOf (Entry place) = entryRefused place
+
+abbrev pub isSound : Verdict → Bool
+isSound (accepted n) = true
+isSound (refused number place) = false
+
+-- one check behind another: the first refusal
+abbrev pub andThen : Verdict → Verdict → Verdict
+andThen (accepted n) d = d
+andThen (refused number place) d = refused number place
 
 -- ---- 1: an axis of 0 or over 64 cells, at the axis; over 4,096 in all, at 3
 
 unfoldable pub badCells : ℕ → Bool
 badCells n = eqb n 0 || ltb 64 n
 
-unfoldable pub checkGrid : Grid3d → Checked
+unfoldable pub checkGrid : Grid3d → Verdict
 checkGrid g =
-    cond (badCells (g .nx)) (Cells 0)
-    (cond (badCells (g .ny)) (Cells 1)
-    (cond (badCells (g .nz)) (Cells 2)
-    (cond (ltb 4096 (g .nx * g .ny * g .nz)) (Cells 3) Sound)))
+    cond (badCells (g .nx)) (gridRefused 0)
+    (cond (badCells (g .ny)) (gridRefused 1)
+    (cond (badCells (g .nz)) (gridRefused 2)
+    (cond (ltb 4096 (g .nx * g .ny * g .nz)) (gridRefused 3) (accepted 0))))
 
 -- ---- 2: a step, at 0 to 2, or k0, at 3, not finite or ≤ 0; the shift, at 4, not finite; a Bloch phase, at 5 to 7, not finite or zero
 
@@ -61,18 +77,18 @@ badNumber x = not (finite x) || isZero x
 
 abbrev pub badPhase : Edges → Bool
 badPhase Pml = false
-badPhase (Bloch re im) = badNumber (record { re = re; im = im })
+badPhase (Bloch p) = badNumber p
 
-unfoldable pub checkScalars : Lattice → Checked
+unfoldable pub checkScalars : Lattice → Verdict
 checkScalars v =
-    cond (badLength (v .grid .dx)) (Scalar 0)
-    (cond (badLength (v .grid .dy)) (Scalar 1)
-    (cond (badLength (v .grid .dz)) (Scalar 2)
-    (cond (badLength (v .k0)) (Scalar 3)
-    (cond (not (finiteDouble (v .shift))) (Scalar 4)
-    (cond (badPhase (v .x)) (Scalar 5)
-    (cond (badPhase (v .y)) (Scalar 6)
-    (cond (badPhase (v .z)) (Scalar 7) Sound)))))))
+    cond (badLength (v .grid .dx)) (scalarRefused 0)
+    (cond (badLength (v .grid .dy)) (scalarRefused 1)
+    (cond (badLength (v .grid .dz)) (scalarRefused 2)
+    (cond (badLength (v .k0)) (scalarRefused 3)
+    (cond (not (finiteDouble (v .shift))) (scalarRefused 4)
+    (cond (badPhase (v .x)) (scalarRefused 5)
+    (cond (badPhase (v .y)) (scalarRefused 6)
+    (cond (badPhase (v .z)) (scalarRefused 7) (accepted 0))))))))
 
 -- ---- the lists, each with the count of numbers that it must have
 
@@ -89,9 +105,9 @@ stretches g xn xh yn yh zn zh =
     given (g .nx) xn ∷ (given (g .nx) xh ∷ (given (g .ny) yn ∷ (given (g .ny) yh ∷ (given (g .nz) zn ∷ (given (g .nz) zh ∷ [])))))
 
 -- 3: a list's length is not the exact count, two doubles a number, at the list's number
-unfoldable pub checkLengths : ℕ → List Given → Checked
-checkLengths i [] = Sound
-checkLengths i (v ∷ vs) = cond (eqb (length (v .list)) (2 * v .count)) (checkLengths (suc i) vs) (Length i)
+unfoldable pub checkLengths : ℕ → List Given → Verdict
+checkLengths i [] = accepted 0
+checkLengths i (v ∷ vs) = cond (eqb (length (v .list)) (2 * v .count)) (checkLengths (suc i) vs) (lengthRefused i)
 
 -- 4: a number that is not finite, or zero, at its position in numbers, counted on through the lists from 0
 
@@ -100,28 +116,21 @@ unfoldable pub firstBad : List Float → ℕ → ℕ → ℕ
 firstBad xs zero k = k
 firstBad xs (suc n) k = cond (badNumber (numberAt xs k)) k (firstBad xs n (suc k))
 
-unfoldable pub checkEntries : ℕ → List Given → Checked
-checkEntries position [] = Sound
+unfoldable pub checkEntries : ℕ → List Given → Verdict
+checkEntries position [] = accepted 0
 checkEntries position (v ∷ vs) =
     cond (ltb (firstBad (v .list) (v .count) 0) (v .count))
-    (Entry (position + firstBad (v .list) (v .count) 0))
+    (entryRefused (position + firstBad (v .list) (v .count) 0))
     (checkEntries (position + v .count) vs)
 
 -- ---- in the order of the table
 
-unfoldable pub checkAll : Lattice → List Given → Checked
+unfoldable pub checkAll : Lattice → List Given → Verdict
 checkAll v vs = andThen (checkGrid (v .grid)) (andThen (checkScalars v) (andThen (checkLengths 0 vs) (checkEntries 0 vs)))
 
 -- the setup's input, and the same without its permittivities, as a change has it
-unfoldable pub checkOf : Lattice → List Float → List Float → List Float → List Float → List Float → List Float → List Float → Checked
+unfoldable pub checkOf : Lattice → List Float → List Float → List Float → List Float → List Float → List Float → List Float → Verdict
 checkOf v xn xh yn yh zn zh eps = checkAll v (stretches (v .grid) xn xh yn yh zn zh ++ (given (unknownsOf (v .grid)) eps ∷ []))
 
-unfoldable pub checkStretches : Lattice → List Float → List Float → List Float → List Float → List Float → List Float → Checked
+unfoldable pub checkStretches : Lattice → List Float → List Float → List Float → List Float → List Float → List Float → Verdict
 checkStretches v xn xh yn yh zn zh = checkAll v (stretches (v .grid) xn xh yn yh zn zh)
-
-abbrev pub isSound : Checked → Bool
-isSound Sound = true
-isSound (Cells place) = false
-isSound (Scalar place) = false
-isSound (Length place) = false
-isSound (Entry place) = false

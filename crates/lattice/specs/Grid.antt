@@ -2,7 +2,7 @@
 -- An axis or a component is 0, 1 or 2 (x, y, z).
 -- Assumes nothing.
 use Prim.Native.Nat.{ℕ, _+_, _*_, _/_, _%_, _<_, _≤_}
-use mathlib.Core.Bool.{Bool, cond}
+use mathlib.Core.Bool.{cond}
 use lib.Dec.{eqb}
 use lib.Ieee.{Float}
 use Rattle.lattice.specs.declared.grid.Grid3d.{Grid3d}
@@ -25,7 +25,7 @@ cellsOf g = g .nx * g .ny * g .nz
 unfoldable pub unknownsOf : Grid3d → ℕ
 unknownsOf g = 3 * cellsOf g
 
--- the other two axes in cyclic order: (y, z) for x, (z, x) for y, (x, y) for z
+-- x, y, z, x, ..: the axis after a, and the one after that
 unfoldable pub nextAxis : ℕ → ℕ
 nextAxis a = axis3 a 1 2 0
 

@@ -1,9 +1,10 @@
--- The lattice record (docs/SPECIFICATION.md, 2): the input with the stretches, at the nodes of each axis and halfway behind each node.
+-- The lattice record (docs/SPECIFICATION.md, 2): the input, and beside it the stretches: a number for each node of an axis, and one for the cell that begins
+-- there (half a step after the node).
 -- Assumes nothing.
-use Prim.Native.Nat.{ℕ, zero, suc, _+_, _*_, _/_, _%_, _<_, _≤_}
+use Prim.Native.Nat.{ℕ, _+_, _*_, _/_, _%_, _<_, _≤_}
 use mathlib.Core.Path.{_≡_}
 use mathlib.Core.Bool.{Bool, true, false, cond}
-use mathlib.Core.List.{List, [], _∷_}
+use mathlib.Core.List.{List}
 use lib.Dec.{ltb}
 use lib.ListN.{length, getD}
 use lib.Ieee.{Float}
@@ -15,9 +16,10 @@ use Rattle.lattice.specs.declared.grid.Grid3d.{Grid3d}
 use Rattle.lattice.specs.declared.lattice.Edges.{Edges}
 use Rattle.lattice.specs.declared.lattice.Edges.the-variants.{Pml, Bloch}
 use Rattle.lattice.specs.declared.lattice.Lattice.{Lattice}
+use Rattle.numbers.specs.Lists.{tabulate}
 
 -- a lattice with its stretches
-pub record Medium : Type 0 where
+pub record FullLattice : Type 0 where
   pub grid : Grid3d
   pub x : Edges
   pub y : Edges
@@ -27,17 +29,19 @@ pub record Medium : Type 0 where
   pub nodes : List C64
   pub halves : List C64
 
--- f k, f (k + 1), .., n of them
-unfoldable pub tabulate : {A : Type 0} → (ℕ → A) → ℕ → ℕ → List A
-tabulate f zero k = []
-tabulate f (suc n) k = f k ∷ tabulate f n (suc k)
+-- 64 places for each axis, and the doubles of a list of stretches
+abbrev pub nodePlaces : ℕ
+nodePlaces = 192
+
+abbrev pub stretchDoubles : ℕ
+stretchDoubles = 768
 
 abbrev pub halfNo : List Float → ℕ → C64
-halfNo st k = foundAt st (192 + k)
+halfNo st k = foundAt st (nodePlaces + k)
 
--- the lattice record with a list of stretches: 192 numbers for the nodes, 192 for halfway behind them
-abbrev pub medium : Lattice → List Float → Medium
-medium l st =
+-- the lattice record with a list of stretches: 192 numbers for the nodes, 192 for the cells that begin there
+abbrev pub fullLattice : Lattice → List Float → FullLattice
+fullLattice l st =
     record {
       grid = l .grid;
       x = l .x;
@@ -45,22 +49,22 @@ medium l st =
       z = l .z;
       k0 = l .k0;
       shift = l .shift;
-      nodes = tabulate (foundAt st) 192 0;
-      halves = tabulate (halfNo st) 192 0;
+      nodes = tabulate (foundAt st) nodePlaces 0;
+      halves = tabulate (halfNo st) nodePlaces 0;
     }
 
-unfoldable pub edgesOf : Medium → ℕ → Edges
+unfoldable pub edgesOf : FullLattice → ℕ → Edges
 edgesOf l a = axis3 a (l .x) (l .y) (l .z)
 
 abbrev pub isWall : Edges → Bool
 isWall Pml = true
-isWall (Bloch re im) = false
+isWall (Bloch p) = false
 
--- the stretch at node m of axis a, and halfway behind it
-unfoldable pub nodesAt : Medium → ℕ → ℕ → C64
+-- the stretch at node m of axis a, and half a step after it, in the middle of the cell that begins there
+unfoldable pub nodesAt : FullLattice → ℕ → ℕ → C64
 nodesAt l a m = getD (l .nodes) (64 * a + m) noNumber
 
-unfoldable pub halvesAt : Medium → ℕ → ℕ → C64
+unfoldable pub halvesAt : FullLattice → ℕ → ℕ → C64
 halvesAt l a m = getD (l .halves) (64 * a + m) noNumber
 
 -- ---- from the six lists
@@ -69,7 +73,7 @@ halvesAt l a m = getD (l .halves) (64 * a + m) noNumber
 unfoldable pub stretchAt : Grid3d → List Float → List Float → List Float → ℕ → C64
 stretchAt g xs ys zs q = cond (ltb (q % 64) (nOf g (q / 64))) (numberAt (axis3 (q / 64) xs ys zs) (q % 64)) zeroNumber
 
-unfoldable pub latticeOf : Lattice → List Float → List Float → List Float → List Float → List Float → List Float → Medium
+unfoldable pub latticeOf : Lattice → List Float → List Float → List Float → List Float → List Float → List Float → FullLattice
 latticeOf v xn xh yn yh zn zh =
     record {
       grid = v .grid;
@@ -78,8 +82,8 @@ latticeOf v xn xh yn yh zn zh =
       z = v .z;
       k0 = v .k0;
       shift = v .shift;
-      nodes = tabulate (stretchAt (v .grid) xn yn zn) 192 0;
-      halves = tabulate (stretchAt (v .grid) xh yh zh) 192 0;
+      nodes = tabulate (stretchAt (v .grid) xn yn zn) nodePlaces 0;
+      halves = tabulate (stretchAt (v .grid) xh yh zh) nodePlaces 0;
     }
 
 -- three lists with as many numbers as the axes have cells

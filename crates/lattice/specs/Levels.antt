@@ -1,7 +1,8 @@
 -- The level loop (docs/SPECIFICATION.md, 4): each axis's line on each level, and how many levels there are.
 -- Assumes nothing.
 use Prim.Native.Nat.{ℕ, zero, suc, _+_, _-_, _*_, _/_, _%_, _^_}
-use mathlib.Core.Bool.{Bool, true, false, _&&_, _||_, cond}
+use mathlib.Core.Path.{_≡_}
+use mathlib.Core.Bool.{Bool, _&&_, _||_, cond}
 use mathlib.Core.List.{List}
 use lib.Dec.{eqb, leb, ltb}
 use lib.ListN.{length, replicate}
@@ -9,18 +10,17 @@ use lib.IntN.{pos}
 use lib.Ieee.{Float, binary64, ofBits, ofInt}
 use Rattle.numbers.specs.Complex.{mulF}
 use Rattle.lattice.specs.Grid.{nOf}
-use Rattle.lattice.specs.Lattice.{tabulate, latticeOf}
+use Rattle.numbers.specs.Lists.{tabulate}
+use Rattle.lattice.specs.Lattice.{latticeOf, FullLattice}
 use Rattle.lattice.specs.Stretched.{acrossMap}
 use Rattle.lattice.specs.Line.{packed, endsOf, finestEnds, coarserEnds}
-use Rattle.lattice.specs.Check.{Verdict, accepted, refused, verdictOf, checkStretches}
-use Rattle.lattice.specs.Lattice.{Medium}
+use Rattle.lattice.specs.Check.{Verdict, accepted, refused, verdictOf, andThen, checkStretches}
 use Rattle.lattice.specs.declared.line.Line.{Line}
 use Rattle.lattice.specs.declared.lattice.Lattice.{Lattice}
-use Rattle.lattice.specs.declared.check.Checked.{Checked}
-use Rattle.lattice.specs.declared.check.Checked.the-variants.{Sound, Cells, Scalar, Length, Entry}
 use Rattle.lattice.specs.declared.levels.Depth.{Depth}
 use Rattle.lattice.specs.declared.levels.Three.{Three}
 use Rattle.lattice.specs.declared.levels.Maps.{Maps}
+use Rattle.lattice.specs.declared.levels.Lines.{Lines}
 use Rattle.lattice.specs.declared.levels.Answer.{Answer}
 use Rattle.lattice.specs.declared.levels.LevelLines.{LevelLines}
 
@@ -33,34 +33,48 @@ unfoldable pub target : ℕ → Float
 target L = mulF (ofInt binary64 (pos (2 ^ (L + 1)))) boundF
 
 -- axis a on level L: the finest line, joined level by level by the axis's map across
-unfoldable pub lineAt : Medium → ℕ → ℕ → List ℕ
+unfoldable pub lineAt : FullLattice → ℕ → ℕ → List ℕ
 lineAt l a zero = finestEnds (nOf (l .grid) a)
 lineAt l a (suc L) = coarserEnds (acrossMap l a) (target L) (lineAt l a L)
 
-unfoldable pub cellsAt : Medium → ℕ → ℕ → ℕ
+unfoldable pub cellsAt : FullLattice → ℕ → ℕ → ℕ
 cellsAt l a L = length (lineAt l a L) - 1
 
-unfoldable pub edgesAt : Medium → ℕ → ℕ
+unfoldable pub edgesAt : FullLattice → ℕ → ℕ
 edgesAt l L = 3 * (cellsAt l 0 L * cellsAt l 1 L * cellsAt l 2 L)
 
 -- no axis changes from level L to the next
-unfoldable pub same : Medium → ℕ → Bool
+unfoldable pub same : FullLattice → ℕ → Bool
 same l L =
     eqb (cellsAt l 0 (suc L)) (cellsAt l 0 L)
     && (eqb (cellsAt l 1 (suc L)) (cellsAt l 1 L) && eqb (cellsAt l 2 (suc L)) (cellsAt l 2 L))
 
 -- level L is the last: its edges are at most `coarsest`, or no axis changes
-unfoldable pub stops : Medium → ℕ → ℕ → Bool
+unfoldable pub stops : FullLattice → ℕ → ℕ → Bool
 stops l coarsest L = leb (edgesAt l L) coarsest || same l L
 
+-- refusal 5, at 12
+abbrev pub levelsRefused : Verdict
+levelsRefused = refused 5 12
+
 -- the level count from level L on, where n more levels are allowed
-unfoldable pub depthFrom : Medium → ℕ → ℕ → ℕ → Depth
-depthFrom l coarsest zero L = Depth.TooMany
-depthFrom l coarsest (suc n) L = cond (stops l coarsest L) (Depth.Levels (suc L)) (depthFrom l coarsest n (suc L))
+unfoldable pub depthFrom : FullLattice → ℕ → ℕ → ℕ → Verdict
+depthFrom l coarsest zero L = levelsRefused
+depthFrom l coarsest (suc n) L = cond (stops l coarsest L) (accepted (suc L)) (depthFrom l coarsest n (suc L))
 
 -- at most 12 levels
-unfoldable pub depthOf : Medium → ℕ → Depth
+unfoldable pub depthOf : FullLattice → ℕ → Verdict
 depthOf l coarsest = depthFrom l coarsest 12 0
+
+-- what the level loop's answers mean, and those of the levels
+abbrev pub depthVerdict : Depth → Verdict
+depthVerdict (Depth.Levels n) = accepted n
+depthVerdict Depth.TooMany = levelsRefused
+
+abbrev pub verdict : Answer → Verdict
+verdict (Answer.Levels n) = accepted n
+verdict (Answer.Refused c) = verdictOf c
+verdict Answer.TooMany = levelsRefused
 
 -- ---- the lines of all levels, in the order of levels and, in a level, of axes
 
@@ -68,22 +82,29 @@ unfoldable pub noLine : Line
 noLine = record { cells = 0; ends = replicate 65 0 }
 
 -- line q is that of axis q % 3 on level q / 3, where the lattice has that level
-unfoldable pub lineNo : Medium → ℕ → ℕ → Line
+unfoldable pub lineNo : FullLattice → ℕ → ℕ → Line
 lineNo l count q = cond (ltb (q / 3) count) (packed (lineAt l (q % 3) (q / 3))) noLine
 
-abbrev pub countOf : Depth → ℕ
-countOf (Depth.Levels n) = n
-countOf Depth.TooMany = 0
+-- the lines of so many levels
+unfoldable pub linesTo : FullLattice → ℕ → List Line
+linesTo l count = tabulate (lineNo l count) 36 0
 
-unfoldable pub linesOf : Medium → ℕ → List Line
-linesOf l coarsest = tabulate (lineNo l (countOf (depthOf l coarsest))) 36 0
+-- how many levels a verdict answers: none if it refuses
+abbrev pub countOf : Verdict → ℕ
+countOf (accepted n) = n
+countOf (refused number place) = 0
+
+-- the level loop has found the depth, and the lines of so many levels
+pub record Joined (l : FullLattice) (coarsest : ℕ) (r : Lines) : Type 0 where
+  pub depth-is : depthVerdict (r .depth) ≡ depthOf l coarsest
+  pub lines-are : r .lines ≡ linesTo l (countOf (depthOf l coarsest))
 
 -- ---- a level as the code holds it
 
-unfoldable pub mapsOf : Medium → Maps
+unfoldable pub mapsOf : FullLattice → Maps
 mapsOf l = record { x = acrossMap l 0; y = acrossMap l 1; z = acrossMap l 2 }
 
-unfoldable pub threeAt : Medium → ℕ → Three
+unfoldable pub threeAt : FullLattice → ℕ → Three
 threeAt l L = record { x = packed (lineAt l 0 L); y = packed (lineAt l 1 L); z = packed (lineAt l 2 L) }
 
 unfoldable pub coarserThree : Three → Maps → Float → Three
@@ -94,37 +115,21 @@ coarserThree s m t =
       z = packed (coarserEnds (m .z) t (endsOf (s .z)));
     }
 
-unfoldable pub edgesOf : Three → ℕ
-edgesOf t = 3 * (t .x .cells * t .y .cells * t .z .cells)
+unfoldable pub threeEdges : Three → ℕ
+threeEdges t = 3 * (t .x .cells * t .y .cells * t .z .cells)
 
 unfoldable pub sameCells : Three → Three → Bool
 sameCells s t = eqb (s .x .cells) (t .x .cells) && (eqb (s .y .cells) (t .y .cells) && eqb (s .z .cells) (t .z .cells))
 
--- ---- the call of a user: refusals 1 to 4, then the level loop with refusal 5, at 12
+-- ---- the call of a user: refusals 1 to 4, then the level loop with refusal 5
 
-abbrev pub answerTo : Depth → Answer
-answerTo (Depth.Levels n) = Answer.Levels n
-answerTo Depth.TooMany = Answer.TooMany
+unfoldable pub levelsOf : Lattice → List Float → List Float → List Float → List Float → List Float → List Float → ℕ → Verdict
+levelsOf v xn xh yn yh zn zh coarsest = andThen (checkStretches v xn xh yn yh zn zh) (depthOf (latticeOf v xn xh yn yh zn zh) coarsest)
 
-abbrev pub verdict : Answer → Verdict
-verdict (Answer.Levels n) = accepted
-verdict (Answer.Refused c) = verdictOf c
-verdict Answer.TooMany = refused 5 12
+-- the lines of as many levels as are answered
+unfoldable pub levelLinesOf : Lattice → List Float → List Float → List Float → List Float → List Float → List Float → ℕ → List Line
+levelLinesOf v xn xh yn yh zn zh coarsest = linesTo (latticeOf v xn xh yn yh zn zh) (countOf (levelsOf v xn xh yn yh zn zh coarsest))
 
-unfoldable pub noLines : List Line
-noLines = replicate 36 noLine
-
--- the lines of a lattice whose input is sound, and else the refusal and lines of no cells
-unfoldable pub found : Medium → ℕ → LevelLines
-found l coarsest = record { answer = answerTo (depthOf l coarsest); lines = linesOf l coarsest }
-
-abbrev pub foundIf : Checked → Medium → ℕ → LevelLines
-foundIf Sound l coarsest = found l coarsest
-foundIf (Cells place) l coarsest = record { answer = Answer.Refused (Cells place); lines = noLines }
-foundIf (Scalar place) l coarsest = record { answer = Answer.Refused (Scalar place); lines = noLines }
-foundIf (Length place) l coarsest = record { answer = Answer.Refused (Length place); lines = noLines }
-foundIf (Entry place) l coarsest = record { answer = Answer.Refused (Entry place); lines = noLines }
-
-unfoldable pub levelLinesOf : Lattice → List Float → List Float → List Float → List Float → List Float → List Float → ℕ → LevelLines
-levelLinesOf v xn xh yn yh zn zh coarsest =
-    foundIf (checkStretches v xn xh yn yh zn zh) (latticeOf v xn xh yn yh zn zh) coarsest
+pub record Answered (v : Lattice) (xn xh yn yh zn zh : List Float) (coarsest : ℕ) (r : LevelLines) : Type 0 where
+  pub answer-is : verdict (r .answer) ≡ levelsOf v xn xh yn yh zn zh coarsest
+  pub lines-are : r .lines ≡ levelLinesOf v xn xh yn yh zn zh coarsest

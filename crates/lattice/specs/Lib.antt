@@ -1,6 +1,5 @@
 pub mod Grid
 pub mod Lattice
-pub mod Terms
 pub mod Neighbours
 pub mod Curls
 pub mod Yee

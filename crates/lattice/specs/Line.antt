@@ -1,7 +1,7 @@
--- Lines (docs/SPECIFICATION.md, 4): the nodes of a level along one axis, by where they lie in half-steps of the finest grid, the far end
--- included. A line of n cells has n + 1 ends.
+-- Lines (docs/SPECIFICATION.md, 4): an axis on one level, as the places of its nodes and of its far end. A line of n cells has n + 1 ends. The
+-- unit of a place is half a cell of the finest grid.
 -- Assumes nothing.
-use Prim.Native.Nat.{ℕ, zero, suc, _+_, _-_, _*_, _/_, _<_, _≤_}
+use Prim.Native.Nat.{ℕ, _+_, _-_, _*_, _/_, _<_, _≤_}
 use mathlib.Core.Path.{_≡_}
 use mathlib.Core.Bool.{Bool, true, false, _&&_, cond}
 use mathlib.Core.List.{List, [], _∷_, _++_}
@@ -11,8 +11,9 @@ use lib.Ieee.{Float}
 use lib.Ieee as Ieee
 use Rattle.numbers.specs.declared.C64.{C64}
 use Rattle.numbers.specs.Complex.{mulF, noNumber, difference, squares}
-use Rattle.lattice.specs.Lattice.{tabulate}
+use Rattle.numbers.specs.Lists.{tabulate, Rises, before}
 use Rattle.lattice.specs.declared.line.Line.{Line}
+use Rattle.lattice.specs.Stretched.{mapPoints}
 
 -- the record that holds a line: its ends, then zeros
 unfoldable pub packed : List ℕ → Line
@@ -57,14 +58,9 @@ coarserEnds x t es = cond (ltb (length es) 5) es (joined x t false es)
 
 -- ---- places
 
--- the place of a value: node m, or, along the axis, halfway between nodes m and m + 1
+-- the place of value m: that of node m across the axis; along it, the middle of the cell that begins there
 unfoldable pub placeOf : List ℕ → ℕ → Bool → ℕ
 placeOf es m along = cond along ((getD es m 0 + getD es (m + 1) 0) / 2) (getD es m 0)
-
--- how many ends stand before the first that is not below e
-unfoldable pub before : ℕ → List ℕ → ℕ
-before e [] = 0
-before e (f ∷ fs) = cond (ltb f e) (suc (before e fs)) 0
 
 -- for each node of a coarse line the number of the same node on the fine one
 unfoldable pub nodesOf : List ℕ → List ℕ → List ℕ
@@ -72,12 +68,6 @@ nodesOf fine [] = []
 nodesOf fine (e ∷ es) = before e fine ∷ nodesOf fine es
 
 -- ---- what a line is
-
--- strictly rising
-unfoldable pub Rises : List ℕ → Type 0
-Rises [] = Unit {0}
-Rises (a ∷ []) = Unit {0}
-Rises (a ∷ (b ∷ es)) = (a < b) × Rises (b ∷ es)
 
 -- a line over n cells of the finest grid: from 0 to 2 n, rising, with at least one cell and at most 64
 pub record LineOver (n : ℕ) (es : List ℕ) : Type 0 where
@@ -91,7 +81,7 @@ pub record LineOver (n : ℕ) (es : List ℕ) : Type 0 where
 pub record Held (l : Line) : Type 0 where
   pub some : 0 < l .cells
   pub most : l .cells ≤ 64
-  pub low : (m : ℕ) → m ≤ l .cells → getD (l .ends) m 0 < 129
+  pub low : (m : ℕ) → m ≤ l .cells → getD (l .ends) m 0 < mapPoints
   pub tidy : l ≡ packed (endsOf l)
 
 -- the end that is kept behind end m of n cells, where the two cells behind it join or not

@@ -3,10 +3,10 @@
 ghost use mathlib.Core.Path.{_≡_};
 ghost use Prim.Native.Nat.{_+_, _*_, _≤_, _<_};
 ghost use lib.ListN.{length};
-ghost use mathlib.Core.List.{[], _∷_, _++_};
+ghost use mathlib.Core.List.{[], _∷_};
 ghost use Rattle.lattice.specs.Grid.{Limits, unknownsOf};
 ghost use Rattle.lattice.specs.Lattice.{Lengths};
-ghost use Rattle.lattice.specs.Check.{badCells, checkGrid, badLength, badNumber, badPhase, checkScalars, given, stretches, checkLengths, firstBad, checkEntries, checkOf, checkStretches, andThen, isSound};
+ghost use Rattle.lattice.specs.Check.{verdictOf, badCells, checkGrid, badLength, badNumber, badPhase, checkScalars, given, stretches, checkLengths, firstBad, checkEntries, checkOf, checkStretches, andThen, isSound};
 use crate::grid;
 use crate::grid::Grid3d;
 use crate::lattice::Edges;
@@ -23,7 +23,7 @@ pub enum Checked {
 }
 
 pub fn is_sound(c: Checked) -> bool
-    ensures { λ r. ⌜ r ≡ isSound c ⌝ }
+    ensures { λ r. ⌜ r ≡ isSound (verdictOf c) ⌝ }
 {
     match c {
         Checked::Sound => true,
@@ -42,7 +42,7 @@ fn bad_cells(n: usize) -> bool
 
 // Refusal 1.
 pub fn check_grid(g: Grid3d) -> Checked
-    ensures { λ r. ⌜ r ≡ checkGrid g ⌝ }
+    ensures { λ r. ⌜ verdictOf r ≡ checkGrid g ⌝ }
 {
     if bad_cells(g.nx) {
         return Checked::Cells(0);
@@ -76,13 +76,13 @@ fn bad_phase(e: Edges) -> bool
 {
     match e {
         Edges::Pml => false,
-        Edges::Bloch(re, im) => bad_number(C64 { re, im }),
+        Edges::Bloch(p) => bad_number(p),
     }
 }
 
 // Refusal 2.
 pub fn check_scalars(v: Lattice) -> Checked
-    ensures { λ r. ⌜ r ≡ checkScalars v ⌝ }
+    ensures { λ r. ⌜ verdictOf r ≡ checkScalars v ⌝ }
 {
     let g = v.grid;
     let x = v.x;
@@ -133,7 +133,7 @@ fn first_bad(xs: &[f64], n: usize) -> usize
 // Refusal 3 of an axis's two lists, which are the lists i and i + 1.
 fn axis_lengths(i: usize, n: usize, nodes: &[f64], halves: &[f64]) -> Checked
     requires { ⌜ (i < 8) × (n ≤ 64) ⌝ }
-    ensures { λ r. ⌜ r ≡ checkLengths i (given n (now (nodes .entry)) ∷ (given n (now (halves .entry)) ∷ [])) ⌝ }
+    ensures { λ r. ⌜ verdictOf r ≡ checkLengths i (given n (now (nodes .entry)) ∷ (given n (now (halves .entry)) ∷ [])) ⌝ }
 {
     if nodes.len() != 2 * n {
         return Checked::Length(i);
@@ -148,7 +148,7 @@ fn axis_lengths(i: usize, n: usize, nodes: &[f64], halves: &[f64]) -> Checked
 fn axis_entries(position: usize, n: usize, nodes: &[f64], halves: &[f64]) -> Checked
     requires { ⌜ (position ≤ 4096) × (n ≤ 64) ⌝ }
     requires { ⌜ (length (now nodes) ≡ 2 * n) × (length (now halves) ≡ 2 * n) ⌝ }
-    ensures { λ r. ⌜ r ≡ checkEntries position (given n (now (nodes .entry)) ∷ (given n (now (halves .entry)) ∷ [])) ⌝ }
+    ensures { λ r. ⌜ verdictOf r ≡ checkEntries position (given n (now (nodes .entry)) ∷ (given n (now (halves .entry)) ∷ [])) ⌝ }
 {
     let k = first_bad(nodes, n);
     if k < n {
@@ -163,7 +163,7 @@ fn axis_entries(position: usize, n: usize, nodes: &[f64], halves: &[f64]) -> Che
 
 // Refusals 1 and 2.
 fn check_lattice(v: Lattice) -> Checked
-    ensures { λ r. ⌜ r ≡ andThen (checkGrid (v .grid)) (checkScalars v) ⌝ }
+    ensures { λ r. ⌜ verdictOf r ≡ andThen (checkGrid (v .grid)) (checkScalars v) ⌝ }
 {
     let c = check_grid(v.grid);
     if is_sound(c) {
@@ -183,7 +183,7 @@ fn stretch_lengths(
     zh: &[f64],
 ) -> Checked
     requires { ⌜ Limits g ⌝ }
-    ensures { λ r. ⌜ r ≡ checkLengths 0 (stretches g (now (xn .entry)) (now (xh .entry)) (now (yn .entry)) (now (yh .entry)) (now (zn .entry)) (now (zh .entry))) ⌝ }
+    ensures { λ r. ⌜ verdictOf r ≡ checkLengths 0 (stretches g (now (xn .entry)) (now (xh .entry)) (now (yn .entry)) (now (yh .entry)) (now (zn .entry)) (now (zh .entry))) ⌝ }
 {
     let a = axis_lengths(0, g.nx, xn, xh);
     if !is_sound(a) {
@@ -209,7 +209,7 @@ fn stretch_entries(
     requires { ⌜ Limits g ⌝ }
     requires { ⌜ Lengths g (now xn) (now yn) (now zn) ⌝ }
     requires { ⌜ Lengths g (now xh) (now yh) (now zh) ⌝ }
-    ensures { λ r. ⌜ r ≡ checkEntries 0 (stretches g (now (xn .entry)) (now (xh .entry)) (now (yn .entry)) (now (yh .entry)) (now (zn .entry)) (now (zh .entry))) ⌝ }
+    ensures { λ r. ⌜ verdictOf r ≡ checkEntries 0 (stretches g (now (xn .entry)) (now (xh .entry)) (now (yn .entry)) (now (yh .entry)) (now (zn .entry)) (now (zh .entry))) ⌝ }
 {
     let a = axis_entries(0, g.nx, xn, xh);
     if !is_sound(a) {
@@ -232,7 +232,7 @@ pub fn check_stretches(
     zn: &[f64],
     zh: &[f64],
 ) -> Checked
-    ensures { λ r. ⌜ r ≡ checkStretches v (now (xn .entry)) (now (xh .entry)) (now (yn .entry)) (now (yh .entry)) (now (zn .entry)) (now (zh .entry)) ⌝ }
+    ensures { λ r. ⌜ verdictOf r ≡ checkStretches v (now (xn .entry)) (now (xh .entry)) (now (yn .entry)) (now (yh .entry)) (now (zn .entry)) (now (zh .entry)) ⌝ }
 {
     let a = check_lattice(v);
     if !is_sound(a) {
@@ -248,7 +248,7 @@ pub fn check_stretches(
 // Refusal 3 of the permittivities, which are list 6, one number for each edge.
 fn eps_length(g: Grid3d, eps: &[f64]) -> Checked
     requires { ⌜ Limits g ⌝ }
-    ensures { λ r. ⌜ r ≡ checkLengths 6 (given (unknownsOf g) (now (eps .entry)) ∷ []) ⌝ }
+    ensures { λ r. ⌜ verdictOf r ≡ checkLengths 6 (given (unknownsOf g) (now (eps .entry)) ∷ []) ⌝ }
 {
     if eps.len() != 2 * grid::unknowns(g) {
         return Checked::Length(6);
@@ -260,7 +260,7 @@ fn eps_length(g: Grid3d, eps: &[f64]) -> Checked
 fn eps_entries(g: Grid3d, eps: &[f64]) -> Checked
     requires { ⌜ Limits g ⌝ }
     requires { ⌜ length (now eps) ≡ 2 * unknownsOf g ⌝ }
-    ensures { λ r. ⌜ r ≡ checkEntries (2 * g .nx + 2 * g .ny + 2 * g .nz) (given (unknownsOf g) (now (eps .entry)) ∷ []) ⌝ }
+    ensures { λ r. ⌜ verdictOf r ≡ checkEntries (2 * g .nx + 2 * g .ny + 2 * g .nz) (given (unknownsOf g) (now (eps .entry)) ∷ []) ⌝ }
 {
     let n = grid::unknowns(g);
     let k = first_bad(eps, n);
@@ -281,7 +281,7 @@ pub fn check(
     zh: &[f64],
     eps: &[f64],
 ) -> Checked
-    ensures { λ r. ⌜ r ≡ checkOf v (now (xn .entry)) (now (xh .entry)) (now (yn .entry)) (now (yh .entry)) (now (zn .entry)) (now (zh .entry)) (now (eps .entry)) ⌝ }
+    ensures { λ r. ⌜ verdictOf r ≡ checkOf v (now (xn .entry)) (now (xh .entry)) (now (yn .entry)) (now (yh .entry)) (now (zn .entry)) (now (zh .entry)) (now (eps .entry)) ⌝ }
 {
     let a = check_lattice(v);
     if !is_sound(a) {

@@ -3,9 +3,9 @@
 
 ghost use mathlib.Core.Path.{_≡_};
 ghost use Prim.Native.Nat.{_<_};
-ghost use Rattle.lattice.specs.Lattice.{medium};
-ghost use Rattle.lattice.specs.Grid.{unknownsOf, cellsOf, Limits, Inside};
-ghost use Rattle.lattice.specs.Terms.{Wrote};
+ghost use Rattle.lattice.specs.Lattice.{fullLattice};
+ghost use Rattle.lattice.specs.Grid.{unknownsOf, Limits, Inside};
+ghost use Rattle.numbers.specs.Terms.{Wrote};
 ghost use Rattle.lattice.specs.Curls.{halfWeight, nodeWeight, termTo, termHere, ahead as aheadOf, behind as behindOf, curlE, curlH, divergenceOf, freeNodes, gradientOf};
 use crate::grid;
 use crate::grid::Position;
@@ -13,15 +13,15 @@ use crate::lattice;
 use crate::lattice::Lattice;
 use crate::neighbours;
 use crate::neighbours::Arrival;
-use crate::terms;
 use numbers::C64;
+use numbers::terms;
 
 // The weight of a difference along an axis, across a cell.
 fn half_weight(l: Lattice, st: &[f64], p: Position, axis: usize, sign: f64) -> C64
     requires { ⌜ Limits (l .grid) ⌝ }
     requires { ⌜ Inside (l .grid) p ⌝ }
     requires { ⌜ axis < 3 ⌝ }
-    ensures { λ r. ⌜ r ≡ halfWeight (medium l (now (st .entry))) p axis sign ⌝ }
+    ensures { λ r. ⌜ r ≡ halfWeight (fullLattice l (now (st .entry))) p axis sign ⌝ }
 {
     let s = lattice::half(l, st, axis, grid::place_on(p, axis));
     numbers::real_over(sign, numbers::real_times(grid::step(l.grid, axis), s))
@@ -32,7 +32,7 @@ fn node_weight(l: Lattice, st: &[f64], p: Position, axis: usize, sign: f64) -> C
     requires { ⌜ Limits (l .grid) ⌝ }
     requires { ⌜ Inside (l .grid) p ⌝ }
     requires { ⌜ axis < 3 ⌝ }
-    ensures { λ r. ⌜ r ≡ nodeWeight (medium l (now (st .entry))) p axis sign ⌝ }
+    ensures { λ r. ⌜ r ≡ nodeWeight (fullLattice l (now (st .entry))) p axis sign ⌝ }
 {
     let s = lattice::node(l, st, axis, grid::place_on(p, axis));
     numbers::real_over(sign, numbers::real_times(grid::step(l.grid, axis), s))
@@ -70,7 +70,7 @@ fn push_here(
     requires { ⌜ Inside (l .grid) p ⌝ }
     requires { ⌜ component < 3 ⌝ }
     requires { ⌜ k < 64 ⌝ }
-    ensures { λ r. ⌜ Wrote (now (columns .entry)) (now (values .entry)) k (termHere (medium l (now (st .entry))) p component w) (now (columns .exit)) (now (values .exit)) r ⌝ }
+    ensures { λ r. ⌜ Wrote (now (columns .entry)) (now (values .entry)) k (termHere (fullLattice l (now (st .entry))) p component w) (now (columns .exit)) (now (values .exit)) r ⌝ }
 {
     let here = grid::index(l.grid, grid::with_component(p, component));
     terms::push(columns, values, k, here, w)
@@ -93,7 +93,7 @@ fn ahead(
     requires { ⌜ along < 3 ⌝ }
     requires { ⌜ field < 3 ⌝ }
     requires { ⌜ k < 60 ⌝ }
-    ensures { λ r. ⌜ Wrote (now (columns .entry)) (now (values .entry)) k (aheadOf (medium l (now (st .entry))) p along field sign) (now (columns .exit)) (now (values .exit)) r ⌝ }
+    ensures { λ r. ⌜ Wrote (now (columns .entry)) (now (values .entry)) k (aheadOf (fullLattice l (now (st .entry))) p along field sign) (now (columns .exit)) (now (values .exit)) r ⌝ }
 {
     let w = half_weight(l, st, p, along, sign);
     let to = neighbours::neighbour(l, st, grid::with_component(p, field), along, true);
@@ -118,7 +118,7 @@ fn behind(
     requires { ⌜ along < 3 ⌝ }
     requires { ⌜ field < 3 ⌝ }
     requires { ⌜ k < 60 ⌝ }
-    ensures { λ r. ⌜ Wrote (now (columns .entry)) (now (values .entry)) k (behindOf (medium l (now (st .entry))) p along field sign) (now (columns .exit)) (now (values .exit)) r ⌝ }
+    ensures { λ r. ⌜ Wrote (now (columns .entry)) (now (values .entry)) k (behindOf (fullLattice l (now (st .entry))) p along field sign) (now (columns .exit)) (now (values .exit)) r ⌝ }
 {
     let w = node_weight(l, st, p, along, sign);
     let k1 = push_here(l, st, p, field, w, k, columns, values);
@@ -126,11 +126,11 @@ fn behind(
     push_to(to, numbers::neg(w), k1, columns, values)
 }
 
-// Curl E at face r: the edges that it takes and their coefficients, fixed ones included.
+// The terms of curl E at face r; a fixed edge has its term too.
 pub fn curl_e(l: Lattice, st: &[f64], r: usize, columns: &mut [usize], values: &mut [f64]) -> usize
     requires { ⌜ Limits (l .grid) ⌝ }
     requires { ⌜ r < unknownsOf (l .grid) ⌝ }
-    ensures { λ n. ⌜ Wrote (now (columns .entry)) (now (values .entry)) 0 (curlE (medium l (now (st .entry))) r) (now (columns .exit)) (now (values .exit)) n ⌝ }
+    ensures { λ n. ⌜ Wrote (now (columns .entry)) (now (values .entry)) 0 (curlE (fullLattice l (now (st .entry))) r) (now (columns .exit)) (now (values .exit)) n ⌝ }
 {
     let p = grid::at(l.grid, r);
     let b = grid::next_axis(p.component);
@@ -139,11 +139,11 @@ pub fn curl_e(l: Lattice, st: &[f64], r: usize, columns: &mut [usize], values: &
     ahead(l, st, p, c, b, -1.0, k, columns, values)
 }
 
-// Curl H at edge r: the faces that it takes and their coefficients.
+// The terms of curl H at edge r.
 pub fn curl_h(l: Lattice, st: &[f64], r: usize, columns: &mut [usize], values: &mut [f64]) -> usize
     requires { ⌜ Limits (l .grid) ⌝ }
     requires { ⌜ r < unknownsOf (l .grid) ⌝ }
-    ensures { λ n. ⌜ Wrote (now (columns .entry)) (now (values .entry)) 0 (curlH (medium l (now (st .entry))) r) (now (columns .exit)) (now (values .exit)) n ⌝ }
+    ensures { λ n. ⌜ Wrote (now (columns .entry)) (now (values .entry)) 0 (curlH (fullLattice l (now (st .entry))) r) (now (columns .exit)) (now (values .exit)) n ⌝ }
 {
     let p = grid::at(l.grid, r);
     let b = grid::next_axis(p.component);
@@ -152,7 +152,7 @@ pub fn curl_h(l: Lattice, st: &[f64], r: usize, columns: &mut [usize], values: &
     behind(l, st, p, c, b, -1.0, k, columns, values)
 }
 
-// The divergence at node q: the edges that it takes and their coefficients, fixed ones included.
+// The terms of the divergence at node q; a fixed edge has its term too.
 pub fn divergence(
     l: Lattice,
     st: &[f64],
@@ -162,7 +162,7 @@ pub fn divergence(
 ) -> usize
     requires { ⌜ Limits (l .grid) ⌝ }
     requires { ⌜ q < unknownsOf (l .grid) ⌝ }
-    ensures { λ n. ⌜ Wrote (now (columns .entry)) (now (values .entry)) 0 (divergenceOf (medium l (now (st .entry))) q) (now (columns .exit)) (now (values .exit)) n ⌝ }
+    ensures { λ n. ⌜ Wrote (now (columns .entry)) (now (values .entry)) 0 (divergenceOf (fullLattice l (now (st .entry))) q) (now (columns .exit)) (now (values .exit)) n ⌝ }
 {
     let p = grid::at(l.grid, q);
     let k = behind(l, st, p, 0, 0, 1.0, 0, columns, values);
@@ -182,7 +182,7 @@ fn push_free_node(
 ) -> usize
     requires { ⌜ Limits (l .grid) ⌝ }
     requires { ⌜ k < 64 ⌝ }
-    ensures { λ r. ⌜ Wrote (now (columns .entry)) (now (values .entry)) k (freeNodes (medium l (now (st .entry))) (termTo to w)) (now (columns .exit)) (now (values .exit)) r ⌝ }
+    ensures { λ r. ⌜ Wrote (now (columns .entry)) (now (values .entry)) k (freeNodes (fullLattice l (now (st .entry))) (termTo to w)) (now (columns .exit)) (now (values .exit)) r ⌝ }
 {
     match to {
         Arrival::Beyond => k,
@@ -208,7 +208,7 @@ fn push_free_here(
     requires { ⌜ Limits (l .grid) ⌝ }
     requires { ⌜ Inside (l .grid) p ⌝ }
     requires { ⌜ k < 64 ⌝ }
-    ensures { λ r. ⌜ Wrote (now (columns .entry)) (now (values .entry)) k (freeNodes (medium l (now (st .entry))) (termHere (medium l (now (st .entry))) p 0 w)) (now (columns .exit)) (now (values .exit)) r ⌝ }
+    ensures { λ r. ⌜ Wrote (now (columns .entry)) (now (values .entry)) k (freeNodes (fullLattice l (now (st .entry))) (termHere (fullLattice l (now (st .entry))) p 0 w)) (now (columns .exit)) (now (values .exit)) r ⌝ }
 {
     let here = grid::index(l.grid, grid::with_component(p, 0));
     if neighbours::node_fixed(l, st, here) {
@@ -217,7 +217,7 @@ fn push_free_here(
     terms::push(columns, values, k, here, w)
 }
 
-// The gradient at edge r: the nodes that it takes and their coefficients, fixed nodes left out.
+// The terms of the gradient at edge r; a fixed node has none.
 pub fn gradient(
     l: Lattice,
     st: &[f64],
@@ -227,7 +227,7 @@ pub fn gradient(
 ) -> usize
     requires { ⌜ Limits (l .grid) ⌝ }
     requires { ⌜ r < unknownsOf (l .grid) ⌝ }
-    ensures { λ n. ⌜ Wrote (now (columns .entry)) (now (values .entry)) 0 (gradientOf (medium l (now (st .entry))) r) (now (columns .exit)) (now (values .exit)) n ⌝ }
+    ensures { λ n. ⌜ Wrote (now (columns .entry)) (now (values .entry)) 0 (gradientOf (fullLattice l (now (st .entry))) r) (now (columns .exit)) (now (values .exit)) n ⌝ }
 {
     let p = grid::at(l.grid, r);
     let w = half_weight(l, st, p, p.component, 1.0);

@@ -1,11 +1,11 @@
 // The level loop: the lines of all levels, and how many levels there are.
 
 ghost use mathlib.Core.Path.{_≡_};
-ghost use Prim.Native.Nat.{_+_, _*_, _≤_, _<_};
-ghost use Rattle.lattice.specs.Lattice.{medium};
+ghost use Prim.Native.Nat.{_+_, _*_, _<_};
+ghost use Rattle.lattice.specs.Lattice.{fullLattice};
 ghost use Rattle.lattice.specs.Grid.{Limits};
 ghost use Rattle.lattice.specs.Line.{Held};
-ghost use Rattle.lattice.specs.Levels.{target as targetOf, mapsOf, threeAt, coarserThree, edgesOf, sameCells, depthOf, noLine, linesOf, levelLinesOf};
+ghost use Rattle.lattice.specs.Levels.{target as targetOf, mapsOf, threeAt, coarserThree, threeEdges, sameCells, noLine, Joined, Answered};
 use crate::check;
 use crate::check::Checked;
 use crate::lattice;
@@ -67,7 +67,7 @@ pub fn target(level: usize) -> f64
 
 fn across_maps(l: Lattice, st: &[f64]) -> Maps
     requires { ⌜ Limits (l .grid) ⌝ }
-    ensures { λ r. ⌜ r ≡ mapsOf (medium l (now (st .entry))) ⌝ }
+    ensures { λ r. ⌜ r ≡ mapsOf (fullLattice l (now (st .entry))) ⌝ }
 {
     Maps {
         x: stretched::across_map(l, st, 0),
@@ -79,7 +79,7 @@ fn across_maps(l: Lattice, st: &[f64]) -> Maps
 // The finest level's lines.
 fn finest(l: Lattice, st: &[f64]) -> Three
     requires { ⌜ Limits (l .grid) ⌝ }
-    ensures { λ r. ⌜ r ≡ threeAt (medium l (now (st .entry))) 0 ⌝ }
+    ensures { λ r. ⌜ r ≡ threeAt (fullLattice l (now (st .entry))) 0 ⌝ }
 {
     let g = l.grid;
     Three {
@@ -110,7 +110,7 @@ fn coarser(t: Three, m: Maps, target: f64) -> Three
 // The edges of a level.
 fn edges(t: Three) -> usize
     requires { ⌜ (Held (t .x)) × (Held (t .y)) × (Held (t .z)) ⌝ }
-    ensures { λ r. ⌜ r ≡ edgesOf t ⌝ }
+    ensures { λ r. ⌜ r ≡ threeEdges t ⌝ }
 {
     let a = t.x;
     let b = t.y;
@@ -144,7 +144,7 @@ fn no_line() -> Line
 // The levels' lines of a lattice. `requires`: a lattice within the limits; `levels` shows it.
 pub fn join_lines(l: Lattice, st: &[f64], coarsest: usize) -> Lines
     requires { ⌜ Limits (l .grid) ⌝ }
-    ensures { λ r. ⌜ r ≡ record { depth = depthOf (medium l (now (st .entry))) coarsest; lines = linesOf (medium l (now (st .entry))) coarsest } ⌝ }
+    ensures { λ r. ⌜ Joined (fullLattice l (now (st .entry))) coarsest r ⌝ }
 {
     let m = across_maps(l, st);
     let none = no_line();
@@ -189,7 +189,7 @@ pub fn levels(
     zh: &[f64],
     coarsest: usize,
 ) -> LevelLines
-    ensures { λ r. ⌜ r ≡ levelLinesOf v (now (xn .entry)) (now (xh .entry)) (now (yn .entry)) (now (yh .entry)) (now (zn .entry)) (now (zh .entry)) coarsest ⌝ }
+    ensures { λ r. ⌜ Answered v (now (xn .entry)) (now (xh .entry)) (now (yn .entry)) (now (yh .entry)) (now (zn .entry)) (now (zh .entry)) coarsest r ⌝ }
 {
     let c = check::check_stretches(v, xn, xh, yn, yh, zn, zh);
     if !check::is_sound(c) {

@@ -10,4 +10,3 @@ pub mod line;
 pub mod neighbours;
 pub mod rows;
 pub mod stretched;
-pub mod terms;

@@ -1,10 +1,11 @@
-// Lines: a level's nodes along one axis, in half-steps of the finest grid.
+// Lines: an axis on one level, held as the places of its nodes. The unit of a place is half a cell of the finest grid.
 
 ghost use mathlib.Core.Path.{_≡_};
 ghost use mathlib.Core.List.{_++_};
 ghost use Prim.Native.Nat.{ℕ, _+_, _-_, _<_, _≤_, min};
-ghost use lib.ListN.{length, getD, drop, replicate};
-ghost use Rattle.lattice.specs.Line.{packed, endsOf, finestEnds, joinsBy, nextBy, coarserEnds, placeOf, before as beforeOf, nodesOf, Rises, Held};
+ghost use lib.ListN.{getD, replicate};
+ghost use Rattle.lattice.specs.Line.{packed, endsOf, finestEnds, joinsBy, nextBy, coarserEnds, placeOf, nodesOf, Held};
+ghost use Rattle.numbers.specs.Lists.{before as beforeOf, Rises};
 use numbers::C64;
 
 // A line of `cells` cells: its ends, one more than the cells, then zeros.
@@ -13,7 +14,7 @@ pub struct Line {
     pub ends: [usize; 65],
 }
 
-// The finest grid's n cells. `requires` of all functions here: a line over at most 64 cells, as the levels have them.
+// The line of n finest cells. `requires` of all functions here: a line over at most 64 cells, as the levels have them.
 pub fn finest(n: usize) -> Line
     requires { ⌜ n ≤ 64 ⌝ }
     ensures { λ r. ⌜ r ≡ packed (finestEnds n) ⌝ }
@@ -115,7 +116,7 @@ pub fn nodes_of(fine: Line, coarse: Line) -> [usize; 65]
     nodes
 }
 
-// Where value m lies: node m, or, along the axis, halfway between nodes m and m + 1.
+// The place of value m: that of node m across the axis; along it, the middle of the cell that begins there.
 pub fn place(l: Line, m: usize, along: bool) -> usize
     requires { ⌜ Held l ⌝ }
     requires { ⌜ m < l .cells ⌝ }

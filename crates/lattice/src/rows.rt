@@ -2,18 +2,19 @@
 // `requires` of all of them: a grid within the limits, one of its edges, and a permittivity for each edge.
 
 ghost use mathlib.Core.Path.{_≡_};
-ghost use Prim.Native.Nat.{ℕ, _+_, _*_, _<_, _≤_};
+ghost use Prim.Native.Nat.{_+_, _*_, _<_, _≤_};
 ghost use lib.ListN.{length, take};
 ghost use Rattle.numbers.specs.Places.{numberAt};
-ghost use Rattle.lattice.specs.Lattice.{medium};
+ghost use Rattle.lattice.specs.Lattice.{fullLattice};
 ghost use Rattle.lattice.specs.Grid.{unknownsOf, Limits};
-ghost use Rattle.lattice.specs.Terms.{Wrote, Below, each, termsIn};
+ghost use Rattle.numbers.specs.Terms.{Wrote, Below, termsIn};
+ghost use Rattle.numbers.specs.Lists.{each};
 ghost use Rattle.lattice.specs.Rows.{faceTerm, faceTerms, curlCurl, freeOf, freeSum, mean, nodeEps, nodeTerm, nodeTerms, gradDiv, rowInto};
 use crate::curls;
 use crate::lattice::Lattice;
 use crate::neighbours;
-use crate::terms;
 use numbers::C64;
+use numbers::terms;
 
 // ---- - curl curl
 
@@ -30,7 +31,7 @@ fn push_face_term(
 ) -> usize
     requires { ⌜ Limits (l .grid) ⌝ }
     requires { ⌜ k < 64 ⌝ }
-    ensures { λ r. ⌜ Wrote (now (columns .entry)) (now (values .entry)) k (faceTerm (medium l (now (st .entry))) wh (record { column = column; number = we })) (now (columns .exit)) (now (values .exit)) r ⌝ }
+    ensures { λ r. ⌜ Wrote (now (columns .entry)) (now (values .entry)) k (faceTerm (fullLattice l (now (st .entry))) wh (record { column = column; number = we })) (now (columns .exit)) (now (values .exit)) r ⌝ }
 {
     if neighbours::fixed(l, st, column) {
         return k;
@@ -59,7 +60,7 @@ fn push_face_terms(
     requires { ⌜ Limits (l .grid) ⌝ }
     requires { ⌜ (n ≤ length (now cs)) × (2 * n ≤ length (now xs)) ⌝ }
     requires { ⌜ from + n < 64 ⌝ }
-    ensures { λ r. ⌜ Wrote (now (columns .entry)) (now (values .entry)) from (each (faceTerm (medium l (now (st .entry))) wh) (termsIn (now (cs .entry)) (now (xs .entry)) 0 n)) (now (columns .exit)) (now (values .exit)) r ⌝ }
+    ensures { λ r. ⌜ Wrote (now (columns .entry)) (now (values .entry)) from (each (faceTerm (fullLattice l (now (st .entry))) wh) (termsIn (now (cs .entry)) (now (xs .entry)) 0 n)) (now (columns .exit)) (now (values .exit)) r ⌝ }
 {
     let mut k = from;
     for m in 0..n {
@@ -81,7 +82,7 @@ fn face_terms(
     requires { ⌜ Limits (l .grid) ⌝ }
     requires { ⌜ face < unknownsOf (l .grid) ⌝ }
     requires { ⌜ k + 4 < 64 ⌝ }
-    ensures { λ r. ⌜ Wrote (now (columns .entry)) (now (values .entry)) k (faceTerms (medium l (now (st .entry))) (record { column = face; number = wh })) (now (columns .exit)) (now (values .exit)) r ⌝ }
+    ensures { λ r. ⌜ Wrote (now (columns .entry)) (now (values .entry)) k (faceTerms (fullLattice l (now (st .entry))) (record { column = face; number = wh })) (now (columns .exit)) (now (values .exit)) r ⌝ }
 {
     let mut cs = [0usize; 4];
     let mut xs = [0.0; 8];
@@ -104,7 +105,7 @@ fn push_faces(
     requires { ⌜ (n ≤ length (now cs)) × (2 * n ≤ length (now xs)) ⌝ }
     requires { ⌜ Below (unknownsOf (l .grid)) (now cs) n ⌝ }
     requires { ⌜ from + 4 * n < 64 ⌝ }
-    ensures { λ r. ⌜ Wrote (now (columns .entry)) (now (values .entry)) from (each (faceTerms (medium l (now (st .entry)))) (termsIn (now (cs .entry)) (now (xs .entry)) 0 n)) (now (columns .exit)) (now (values .exit)) r ⌝ }
+    ensures { λ r. ⌜ Wrote (now (columns .entry)) (now (values .entry)) from (each (faceTerms (fullLattice l (now (st .entry)))) (termsIn (now (cs .entry)) (now (xs .entry)) 0 n)) (now (columns .exit)) (now (values .exit)) r ⌝ }
 {
     let mut k = from;
     for m in 0..n {
@@ -125,7 +126,7 @@ pub fn curl_curl_into(
     requires { ⌜ Limits (l .grid) ⌝ }
     requires { ⌜ r < unknownsOf (l .grid) ⌝ }
     requires { ⌜ k < 40 ⌝ }
-    ensures { λ n. ⌜ Wrote (now (columns .entry)) (now (values .entry)) k (curlCurl (medium l (now (st .entry))) r) (now (columns .exit)) (now (values .exit)) n ⌝ }
+    ensures { λ n. ⌜ Wrote (now (columns .entry)) (now (values .entry)) k (curlCurl (fullLattice l (now (st .entry))) r) (now (columns .exit)) (now (values .exit)) n ⌝ }
 {
     let mut cs = [0usize; 4];
     let mut xs = [0.0; 8];
@@ -147,7 +148,7 @@ fn sum_free(l: Lattice, st: &[f64], eps: &[f64], n: usize, cs: &[usize]) -> Sum
     requires { ⌜ (n ≤ length (now cs)) × (n < 64) ⌝ }
     requires { ⌜ Below (unknownsOf (l .grid)) (now cs) n ⌝ }
     requires { ⌜ 2 * unknownsOf (l .grid) ≤ length (now eps) ⌝ }
-    ensures { λ r. ⌜ r ≡ freeSum (medium l (now (st .entry))) (numberAt (now (eps .entry))) (take n (now (cs .entry))) ⌝ }
+    ensures { λ r. ⌜ r ≡ freeSum (fullLattice l (now (st .entry))) (numberAt (now (eps .entry))) (take n (now (cs .entry))) ⌝ }
 {
     let mut total = numbers::zero();
     let mut count = 0;
@@ -167,7 +168,7 @@ fn mean_free(l: Lattice, st: &[f64], eps: &[f64], n: usize, cs: &[usize]) -> C64
     requires { ⌜ (n ≤ length (now cs)) × (n < 64) ⌝ }
     requires { ⌜ Below (unknownsOf (l .grid)) (now cs) n ⌝ }
     requires { ⌜ 2 * unknownsOf (l .grid) ≤ length (now eps) ⌝ }
-    ensures { λ r. ⌜ r ≡ mean (numberAt (now (eps .entry))) (freeOf (medium l (now (st .entry))) (take n (now (cs .entry)))) ⌝ }
+    ensures { λ r. ⌜ r ≡ mean (numberAt (now (eps .entry))) (freeOf (fullLattice l (now (st .entry))) (take n (now (cs .entry)))) ⌝ }
 {
     let s = sum_free(l, st, eps, n, cs);
     if s.count == 0 {
@@ -182,7 +183,7 @@ pub fn node_eps(l: Lattice, st: &[f64], eps: &[f64], q: usize) -> C64
     requires { ⌜ Limits (l .grid) ⌝ }
     requires { ⌜ q < unknownsOf (l .grid) ⌝ }
     requires { ⌜ 2 * unknownsOf (l .grid) ≤ length (now eps) ⌝ }
-    ensures { λ r. ⌜ r ≡ nodeEps (medium l (now (st .entry))) (numberAt (now (eps .entry))) q ⌝ }
+    ensures { λ r. ⌜ r ≡ nodeEps (fullLattice l (now (st .entry))) (numberAt (now (eps .entry))) q ⌝ }
 {
     let mut cs = [0usize; 6];
     let mut xs = [0.0; 12];
@@ -208,7 +209,7 @@ fn push_node_term(
     requires { ⌜ Limits (l .grid) ⌝ }
     requires { ⌜ 2 * column + 1 < length (now eps) ⌝ }
     requires { ⌜ k < 64 ⌝ }
-    ensures { λ r. ⌜ Wrote (now (columns .entry)) (now (values .entry)) k (nodeTerm (medium l (now (st .entry))) (numberAt (now (eps .entry))) wg inverse (record { column = column; number = wd })) (now (columns .exit)) (now (values .exit)) r ⌝ }
+    ensures { λ r. ⌜ Wrote (now (columns .entry)) (now (values .entry)) k (nodeTerm (fullLattice l (now (st .entry))) (numberAt (now (eps .entry))) wg inverse (record { column = column; number = wd })) (now (columns .exit)) (now (values .exit)) r ⌝ }
 {
     if neighbours::fixed(l, st, column) {
         return k;
@@ -237,7 +238,7 @@ fn push_node_terms(
     requires { ⌜ Below (unknownsOf (l .grid)) (now cs) n ⌝ }
     requires { ⌜ 2 * unknownsOf (l .grid) ≤ length (now eps) ⌝ }
     requires { ⌜ from + n < 64 ⌝ }
-    ensures { λ r. ⌜ Wrote (now (columns .entry)) (now (values .entry)) from (each (nodeTerm (medium l (now (st .entry))) (numberAt (now (eps .entry))) wg inverse) (termsIn (now (cs .entry)) (now (xs .entry)) 0 n)) (now (columns .exit)) (now (values .exit)) r ⌝ }
+    ensures { λ r. ⌜ Wrote (now (columns .entry)) (now (values .entry)) from (each (nodeTerm (fullLattice l (now (st .entry))) (numberAt (now (eps .entry))) wg inverse) (termsIn (now (cs .entry)) (now (xs .entry)) 0 n)) (now (columns .exit)) (now (values .exit)) r ⌝ }
 {
     let mut k = from;
     for m in 0..n {
@@ -272,7 +273,7 @@ fn node_terms(
     requires { ⌜ q < unknownsOf (l .grid) ⌝ }
     requires { ⌜ 2 * unknownsOf (l .grid) ≤ length (now eps) ⌝ }
     requires { ⌜ k + 6 < 64 ⌝ }
-    ensures { λ r. ⌜ Wrote (now (columns .entry)) (now (values .entry)) k (nodeTerms (medium l (now (st .entry))) (numberAt (now (eps .entry))) (record { column = q; number = wg })) (now (columns .exit)) (now (values .exit)) r ⌝ }
+    ensures { λ r. ⌜ Wrote (now (columns .entry)) (now (values .entry)) k (nodeTerms (fullLattice l (now (st .entry))) (numberAt (now (eps .entry))) (record { column = q; number = wg })) (now (columns .exit)) (now (values .exit)) r ⌝ }
 {
     let mut cs = [0usize; 6];
     let mut xs = [0.0; 12];
@@ -298,7 +299,7 @@ fn push_nodes(
     requires { ⌜ Below (unknownsOf (l .grid)) (now cs) n ⌝ }
     requires { ⌜ 2 * unknownsOf (l .grid) ≤ length (now eps) ⌝ }
     requires { ⌜ from + 6 * n < 64 ⌝ }
-    ensures { λ r. ⌜ Wrote (now (columns .entry)) (now (values .entry)) from (each (nodeTerms (medium l (now (st .entry))) (numberAt (now (eps .entry)))) (termsIn (now (cs .entry)) (now (xs .entry)) 0 n)) (now (columns .exit)) (now (values .exit)) r ⌝ }
+    ensures { λ r. ⌜ Wrote (now (columns .entry)) (now (values .entry)) from (each (nodeTerms (fullLattice l (now (st .entry))) (numberAt (now (eps .entry)))) (termsIn (now (cs .entry)) (now (xs .entry)) 0 n)) (now (columns .exit)) (now (values .exit)) r ⌝ }
 {
     let mut k = from;
     for m in 0..n {
@@ -321,7 +322,7 @@ pub fn grad_div_into(
     requires { ⌜ r < unknownsOf (l .grid) ⌝ }
     requires { ⌜ 2 * unknownsOf (l .grid) ≤ length (now eps) ⌝ }
     requires { ⌜ k < 40 ⌝ }
-    ensures { λ n. ⌜ Wrote (now (columns .entry)) (now (values .entry)) k (gradDiv (medium l (now (st .entry))) (numberAt (now (eps .entry))) r) (now (columns .exit)) (now (values .exit)) n ⌝ }
+    ensures { λ n. ⌜ Wrote (now (columns .entry)) (now (values .entry)) k (gradDiv (fullLattice l (now (st .entry))) (numberAt (now (eps .entry))) r) (now (columns .exit)) (now (values .exit)) n ⌝ }
 {
     let mut cs = [0usize; 2];
     let mut xs = [0.0; 4];
@@ -343,7 +344,7 @@ pub fn row_into(
     requires { ⌜ Limits (l .grid) ⌝ }
     requires { ⌜ r < unknownsOf (l .grid) ⌝ }
     requires { ⌜ 2 * unknownsOf (l .grid) ≤ length (now eps) ⌝ }
-    ensures { λ n. ⌜ Wrote (now (columns .entry)) (now (values .entry)) 0 (rowInto (medium l (now (st .entry))) (numberAt (now (eps .entry))) r) (now (columns .exit)) (now (values .exit)) n ⌝ }
+    ensures { λ n. ⌜ Wrote (now (columns .entry)) (now (values .entry)) 0 (rowInto (fullLattice l (now (st .entry))) (numberAt (now (eps .entry))) r) (now (columns .exit)) (now (values .exit)) n ⌝ }
 {
     if neighbours::fixed(l, st, r) {
         return terms::push(columns, values, 0, r, numbers::one());

@@ -1,26 +1,27 @@
 // Both maps of an axis: the stretched coordinate at each half-step of the finest grid.
 
 ghost use mathlib.Core.Path.{_≡_};
-ghost use Prim.Native.Nat.{_<_, min};
-ghost use Rattle.lattice.specs.Lattice.{medium};
+ghost use Prim.Native.Nat.{_<_};
+ghost use Rattle.lattice.specs.Lattice.{fullLattice};
 ghost use Rattle.lattice.specs.Grid.{Limits};
 ghost use Rattle.lattice.specs.Stretched.{acrossMap, alongMap, stretchedOf};
 use crate::grid;
 use crate::lattice;
 use crate::lattice::Lattice;
 use numbers::C64;
+use numbers::lists;
 
-// The maps of an axis: by the stretch of the cells, which the components across it see, and by that of the nodes, which the component along it sees.
+// An axis has two maps: `across` adds up the cells' stretches and places the components across the axis, `along` adds up the nodes' and places the component along it.
 pub struct Stretched {
     pub across: [C64; 129],
     pub along: [C64; 129],
 }
 
-// The map by the stretch of the cells.
+// The map that adds up the cells' stretches.
 pub fn across_map(l: Lattice, st: &[f64], axis: usize) -> [C64; 129]
     requires { ⌜ Limits (l .grid) ⌝ }
     requires { ⌜ axis < 3 ⌝ }
-    ensures { λ r. ⌜ r ≡ acrossMap (medium l (now (st .entry))) axis ⌝ }
+    ensures { λ r. ⌜ r ≡ acrossMap (fullLattice l (now (st .entry))) axis ⌝ }
 {
     let n = grid::n(l.grid, axis);
     let mut x = [numbers::zero(); 129];
@@ -35,17 +36,17 @@ pub fn across_map(l: Lattice, st: &[f64], axis: usize) -> [C64; 129]
     x
 }
 
-// The map by the stretch of the nodes.
+// The map that adds up the nodes' stretches.
 pub fn along_map(l: Lattice, st: &[f64], axis: usize) -> [C64; 129]
     requires { ⌜ Limits (l .grid) ⌝ }
     requires { ⌜ axis < 3 ⌝ }
-    ensures { λ r. ⌜ r ≡ alongMap (medium l (now (st .entry))) axis ⌝ }
+    ensures { λ r. ⌜ r ≡ alongMap (fullLattice l (now (st .entry))) axis ⌝ }
 {
     let n = grid::n(l.grid, axis);
     let mut x = [numbers::zero(); 129];
     let mut here = numbers::zero();
     for p in 0..2 * n {
-        let m = lesser((p + 1) / 2, n - 1);
+        let m = lists::lesser((p + 1) / 2, n - 1);
         here = numbers::add(
             here,
             numbers::real_times(0.5, lattice::node(l, st, axis, m)),
@@ -59,20 +60,10 @@ pub fn along_map(l: Lattice, st: &[f64], axis: usize) -> [C64; 129]
 pub fn new(l: Lattice, st: &[f64], axis: usize) -> Stretched
     requires { ⌜ Limits (l .grid) ⌝ }
     requires { ⌜ axis < 3 ⌝ }
-    ensures { λ r. ⌜ r ≡ stretchedOf (medium l (now (st .entry))) axis ⌝ }
+    ensures { λ r. ⌜ r ≡ stretchedOf (fullLattice l (now (st .entry))) axis ⌝ }
 {
     Stretched {
         across: across_map(l, st, axis),
         along: along_map(l, st, axis),
     }
-}
-
-// The lesser of two numbers.
-fn lesser(a: usize, b: usize) -> usize
-    ensures { λ r. ⌜ r ≡ min a b ⌝ }
-{
-    if a < b {
-        return a;
-    }
-    b
 }

@@ -1,36 +1,33 @@
 -- What the functions of the static library leave in the lists that they are lent, in terms of the lattice's definitions.
 -- Assumes nothing.
-use Prim.Native.Nat.{ℕ, zero, suc, _+_, _*_, _<_}
+use Prim.Native.Nat.{ℕ, _+_, _*_}
 use mathlib.Core.Path.{_≡_}
-use mathlib.Core.Bool.{Bool, true, false, _&&_, cond}
-use mathlib.Core.List.{List, [], _∷_, _++_}
-use lib.Dec.{leb, ltb}
-use lib.ListN.{length, getD, set}
-use lib.Seq.{sets}
+use mathlib.Core.Bool.{Bool, false, _&&_, cond}
+use mathlib.Core.List.{List, [], _∷_}
+use lib.Dec.{ltb}
+use lib.ListN.{length, getD}
 use lib.Ieee.{Float, nan}
 use lib.Ieee as Ieee
 use Rattle.numbers.specs.declared.C64.{C64}
 use Rattle.numbers.specs.Complex.{zeroF, oneF}
-use Rattle.numbers.specs.Places.{setNumber}
-use Rattle.lattice.specs.Grid.{nOf}
-use Rattle.lattice.specs.Terms.{Term, laidColumns, laidNumbers}
-use Rattle.lattice.specs.Rows.{rowInto}
-use Rattle.lattice.specs.Check.{Verdict, accepted, refused}
-use Rattle.lattice.specs.Levels.{verdict}
+use Rattle.numbers.specs.Places.{numberAt}
+use Rattle.numbers.specs.Lists.{rows, startsOf, laid, laidNumbers}
+use Rattle.numbers.specs.Terms.{Term, columnsOf, numbersOf, LaidRows}
+use Rattle.lattice.specs.Grid.{nOf, unknownsOf}
+use Rattle.lattice.specs.Lattice.{FullLattice, latticeOf}
+use Rattle.lattice.specs.Check.{Verdict, accepted, refused, isSound, checkOf, checkStretches}
+use Rattle.lattice.specs.Levels.{levelsOf, levelLinesOf}
 use Rattle.lattice.specs.Stretched.{acrossMap, alongMap}
 use Rattle.lattice.specs.declared.lattice.Edges.{Edges}
 use Rattle.lattice.specs.declared.lattice.Edges.the-variants.{Pml, Bloch}
 use Rattle.lattice.specs.declared.lattice.Lattice.{Lattice}
-use Rattle.lattice.specs.Lattice.{Medium}
-use Rattle.lattice.specs.declared.levels.Answer.{Answer}
-use Rattle.lattice.specs.declared.levels.LevelLines.{LevelLines}
 use Rattle.lattice.specs.declared.line.Line.{Line}
 
 -- ---- the input from two lists
 
 -- an axis's kind and phase: a zero of either sign is a wall
 unfoldable pub edgesFrom : Float → Float → Float → Edges
-edgesFrom kind re im = cond (Ieee.eq kind zeroF) Pml (Bloch re im)
+edgesFrom kind re im = cond (Ieee.eq kind zeroF) Pml (Bloch (record { re = re; im = im }))
 
 -- no cells: it is refused
 unfoldable pub noInput : Lattice
@@ -65,63 +62,96 @@ inputOf cells scalars =
       shift = getD scalars 4 nan;
     }))
 
+-- what a call is handed: cells and scalars, and the six stretch lists
+pub record Handed : Type 0 where
+  pub cells : List ℕ
+  pub scalars : List Float
+  pub xn : List Float
+  pub xh : List Float
+  pub yn : List Float
+  pub yh : List Float
+  pub zn : List Float
+  pub zh : List Float
+
+abbrev pub handed : List ℕ → List Float → List Float → List Float → List Float → List Float → List Float → List Float → Handed
+handed cells scalars xn xh yn yh zn zh = record { cells = cells; scalars = scalars; xn = xn; xh = xh; yn = yn; yh = yh; zn = zn; zh = zh }
+
+-- the lattice without and with its stretches
+abbrev pub latticeIn : Handed → Lattice
+latticeIn h = inputOf (h .cells) (h .scalars)
+
+abbrev pub mediumIn : Handed → FullLattice
+mediumIn h = latticeOf (latticeIn h) (h .xn) (h .xh) (h .yn) (h .yh) (h .zn) (h .zh)
+
+-- what the checks say, without permittivities and with them
+abbrev pub checkIn : Handed → Verdict
+checkIn h = checkStretches (latticeIn h) (h .xn) (h .xh) (h .yn) (h .yh) (h .zn) (h .zh)
+
+abbrev pub checkWith : Handed → List Float → Verdict
+checkWith h eps = checkOf (latticeIn h) (h .xn) (h .xh) (h .yn) (h .yh) (h .zn) (h .zh) eps
+
 -- ---- answers
 
--- a refusal's number and place, or 0 and n
-abbrev pub answered : Verdict → ℕ → List ℕ → List ℕ
-answered accepted n out = set (set out 0 0) 1 n
-answered (refused number place) n out = set (set out 0 number) 1 place
+-- a refusal's number and place, or 0 and what is answered
+abbrev pub answered : Verdict → List ℕ → List ℕ
+answered (accepted n) out = laid out 0 (0 ∷ (n ∷ []))
+answered (refused number place) out = laid out 0 (number ∷ (place ∷ []))
 
-abbrev pub countIn : Answer → ℕ
-countIn (Answer.Levels n) = n
-countIn (Answer.Refused c) = 0
-countIn Answer.TooMany = 0
+-- refusals 1 to 4 leave the lists as they were
+abbrev pub untouched : Verdict → Bool
+untouched (accepted n) = false
+untouched (refused number place) = ltb number 5
 
 -- ---- lines, maps and rows, one behind another
 
-unfoldable pub allCells : List Line → List ℕ
-allCells [] = []
-allCells (l ∷ ls) = l .cells ∷ allCells ls
+-- line q of a list: its cells, and its ends
+abbrev pub nothing : Line
+nothing = record { cells = 0; ends = [] }
 
-unfoldable pub allEnds : List Line → List ℕ
-allEnds [] = []
-allEnds (l ∷ ls) = l .ends ++ allEnds ls
+abbrev pub lineCells : List Line → ℕ → List ℕ
+lineCells lines q = getD lines q nothing .cells ∷ []
 
--- numbers laid over a list from number k on
-unfoldable pub laidAll : List Float → ℕ → List C64 → List Float
-laidAll xs k [] = xs
-laidAll xs k (v ∷ vs) = laidAll (setNumber xs k v) (suc k) vs
+abbrev pub lineEnds : List Line → ℕ → List ℕ
+lineEnds lines q = getD lines q nothing .ends
 
--- n rows from row r on, and where each starts, from k on, the end included
-unfoldable pub rowsFrom : Medium → (ℕ → C64) → ℕ → ℕ → List Term
-rowsFrom l f zero r = []
-rowsFrom l f (suc n) r = rowInto l f r ++ rowsFrom l f n (suc r)
+-- what the levels are answered, and their lines
+abbrev pub levelsIn : Handed → ℕ → Verdict
+levelsIn h coarsest = levelsOf (latticeIn h) (h .xn) (h .xh) (h .yn) (h .yh) (h .zn) (h .zh) coarsest
 
-unfoldable pub startsFrom : Medium → (ℕ → C64) → ℕ → ℕ → ℕ → List ℕ
-startsFrom l f zero r k = k ∷ []
-startsFrom l f (suc n) r k = k ∷ startsFrom l f n (suc r) (k + length (rowInto l f r))
+abbrev pub linesIn : Handed → ℕ → List Line
+linesIn h coarsest = levelLinesOf (latticeIn h) (h .xn) (h .xh) (h .yn) (h .yh) (h .zn) (h .zh) coarsest
 
--- what the maps of an axis leave
-pub record MapsLeft (sound : Bool) (l : Medium) (axis : ℕ) (xs ys xs′ ys′ : List Float) (r : ℕ) : Type 0 where
-  pub across : xs′ ≡ cond sound (laidAll xs 0 (acrossMap l axis)) xs
-  pub along : ys′ ≡ cond sound (laidAll ys 0 (alongMap l axis)) ys
-  pub count : r ≡ cond sound (2 * nOf (l .grid) axis + 1) 0
+-- what they leave
+pub record LevelsLeft (h : Handed) (coarsest : ℕ) (out counts ends out′ counts′ ends′ : List ℕ) : Type 0 where
+  pub answer-left : out′ ≡ answered (levelsIn h coarsest) out
+  pub cells-left : counts′ ≡ cond (untouched (levelsIn h coarsest)) counts (laid counts 0 (rows (lineCells (linesIn h coarsest)) 36))
+  pub ends-left : ends′ ≡ cond (untouched (levelsIn h coarsest)) ends (laid ends 0 (rows (lineEnds (linesIn h coarsest)) 36))
 
--- what n rows leave
-pub record RowsLeft (sound : Bool) (l : Medium) (f : ℕ → C64) (n : ℕ) (ss cs : List ℕ) (xs : List Float) (ss′ cs′ : List ℕ) (xs′ : List Float) (r : ℕ)
+-- what the maps of an axis leave: nothing where the input is refused or there is no such axis
+abbrev pub mapsGiven : Handed → ℕ → Bool
+mapsGiven h axis = ltb axis 3 && isSound (checkIn h)
+
+pub record MapsLeft (h : Handed) (axis : ℕ) (xs ys xs′ ys′ : List Float) (r : ℕ) : Type 0 where
+  pub across : xs′ ≡ cond (mapsGiven h axis) (laidNumbers xs 0 (acrossMap (mediumIn h) axis)) xs
+  pub along : ys′ ≡ cond (mapsGiven h axis) (laidNumbers ys 0 (alongMap (mediumIn h) axis)) ys
+  pub count : r ≡ cond (mapsGiven h axis) (2 * nOf (latticeIn h .grid) axis + 1) 0
+
+-- n rows have been laid from the lists' beginnings on, and r is how many terms they have
+pub record AllLaid (row : ℕ → List Term) (n : ℕ) (ss cs : List ℕ) (xs : List Float) (ss′ cs′ : List ℕ) (xs′ : List Float) (r : ℕ) : Type 0 where
+  pub laid-rows : LaidRows row n ss 0 cs xs 0 ss′ cs′ xs′
+  pub count : r ≡ length (rows row n)
+
+-- the rows of a lattice with its permittivities, by a rule of rows, and how many there are
+abbrev pub rowsBy : (FullLattice → (ℕ → C64) → ℕ → List Term) → Handed → List Float → ℕ → List Term
+rowsBy row h eps = row (mediumIn h) (numberAt eps)
+
+abbrev pub edgesIn : Handed → ℕ
+edgesIn h = unknownsOf (latticeIn h .grid)
+
+-- what a call leaves that lays them all: nothing where the input is refused
+pub record RowsLeft (row : FullLattice → (ℕ → C64) → ℕ → List Term) (h : Handed) (eps : List Float) (ss cs : List ℕ) (xs : List Float) (ss′ cs′ : List ℕ) (xs′ : List Float) (r : ℕ)
     : Type 0 where
-  pub starts : ss′ ≡ cond sound (sets ss 0 (startsFrom l f n 0 0)) ss
-  pub columns : cs′ ≡ cond sound (laidColumns cs 0 (rowsFrom l f n 0)) cs
-  pub numbers : xs′ ≡ cond sound (laidNumbers xs 0 (rowsFrom l f n 0)) xs
-  pub count : r ≡ cond sound (length (rowsFrom l f n 0)) 0
-
--- what the levels' lines leave
-pub record LevelsLeft (found : LevelLines) (out counts ends out′ counts′ ends′ : List ℕ) : Type 0 where
-  pub answer-left : out′ ≡ answered (verdict (found .answer)) (countIn (found .answer)) out
-  pub cells-left : counts′ ≡ sets counts 0 (allCells (found .lines))
-  pub ends-left : ends′ ≡ sets ends 0 (allEnds (found .lines))
-
--- 36 lines of 65 ends each, as a record of lines has them
-pub record Whole (lines : List Line) : Type 0 where
-  pub many : length lines ≡ 36
-  pub long : (q : ℕ) → q < 36 → (d : Line) → length (getD lines q d .ends) ≡ 65
+  pub starts : ss′ ≡ cond (isSound (checkWith h eps)) (laid ss 0 (startsOf (rowsBy row h eps) (edgesIn h))) ss
+  pub columns : cs′ ≡ cond (isSound (checkWith h eps)) (laid cs 0 (columnsOf (rows (rowsBy row h eps) (edgesIn h)))) cs
+  pub numbers : xs′ ≡ cond (isSound (checkWith h eps)) (laidNumbers xs 0 (numbersOf (rows (rowsBy row h eps) (edgesIn h)))) xs
+  pub count : r ≡ cond (isSound (checkWith h eps)) (length (rows (rowsBy row h eps) (edgesIn h))) 0

@@ -4,19 +4,18 @@
 // anything else for Bloch) and the two parts of its phase; and the six stretch lists.
 
 ghost use mathlib.Core.Path.{_≡_};
-ghost use Prim.Native.Nat.{ℕ, _+_, _*_, _<_, _≤_, min};
-ghost use mathlib.Core.Bool.{true, _&&_};
-ghost use lib.Dec.{ltb};
-ghost use lib.ListN.{length, getD, set};
-ghost use lib.Seq.{sets};
+ghost use Prim.Native.Nat.{_+_, _*_, _<_, _≤_, _^_};
+ghost use mathlib.Core.List.{[], _∷_};
+ghost use lib.ListN.{length, set};
 ghost use Rattle.numbers.specs.Places.{numberAt};
+ghost use Rattle.numbers.specs.Lists.{rows as rowsOf, laid, laidNumbers, Laid};
+ghost use Rattle.numbers.specs.Terms.{Wrote};
 ghost use Rattle.lattice.specs.Grid.{unknownsOf, Limits};
-ghost use Rattle.lattice.specs.Lattice.{medium, latticeOf};
-ghost use Rattle.lattice.specs.Terms.{Wrote};
+ghost use Rattle.lattice.specs.Lattice.{fullLattice};
 ghost use Rattle.lattice.specs.Rows.{rowInto};
-ghost use Rattle.lattice.specs.Check.{verdictOf, isSound, checkOf, checkStretches};
-ghost use Rattle.lattice.specs.Levels.{verdict, levelLinesOf};
-ghost use Rattle.lattice_c.specs.Exports.{edgesFrom, noInput, inputOf, answered, countIn, allCells, allEnds, laidAll, Whole, MapsLeft, RowsLeft, LevelsLeft};
+ghost use Rattle.lattice.specs.Check.{verdictOf};
+ghost use Rattle.lattice.specs.Levels.{verdict};
+ghost use Rattle.lattice_c.specs.Exports.{edgesFrom, noInput, inputOf, handed, checkWith, answered, untouched as untouchedBy, lineCells, lineEnds, MapsLeft, AllLaid, RowsLeft, LevelsLeft};
 use lattice::check;
 use lattice::check::Checked;
 use lattice::grid;
@@ -29,6 +28,7 @@ use lattice::line::Line;
 use lattice::rows;
 use lattice::stretched;
 use numbers::C64;
+use numbers::lists;
 
 // ---- the input
 
@@ -38,7 +38,7 @@ fn edges(kind: f64, re: f64, im: f64) -> Edges
     if kind == 0.0 {
         return Edges::Pml;
     }
-    Edges::Bloch(re, im)
+    Edges::Bloch(C64 { re, im })
 }
 
 // An input of no cells, which is refused.
@@ -91,27 +91,19 @@ pub fn input(cells: &[usize], scalars: &[f64]) -> Lattice
 
 // ---- answers
 
-fn put(out: &mut [usize], k: usize, n: usize)
-    ensures { λ _. ⌜ now (out .exit) ≡ set (now (out .entry)) k n ⌝ }
-{
-    if k < out.len() {
-        out[k] = n;
-    }
-}
-
 pub fn put_two(out: &mut [usize], a: usize, b: usize)
-    ensures { λ _. ⌜ now (out .exit) ≡ set (set (now (out .entry)) 0 a) 1 b ⌝ }
+    ensures { λ _. ⌜ now (out .exit) ≡ laid (now (out .entry)) 0 (a ∷ (b ∷ [])) ⌝ }
 {
-    put(out, 0, a);
-    put(out, 1, b);
+    let k = lists::push(out, 0, a);
+    lists::push(out, k, b);
 }
 
-// A refusal's number and place; 0 and n where there is none.
-pub fn answer(c: Checked, n: usize, out: &mut [usize])
-    ensures { λ _. ⌜ now (out .exit) ≡ answered (verdictOf c) n (now (out .entry)) ⌝ }
+// A refusal's number and place; 0 and 0 where there is none.
+pub fn answer(c: Checked, out: &mut [usize])
+    ensures { λ _. ⌜ now (out .exit) ≡ answered (verdictOf c) (now (out .entry)) ⌝ }
 {
     match c {
-        Checked::Sound => put_two(out, 0, n),
+        Checked::Sound => put_two(out, 0, 0),
         Checked::Cells(place) => put_two(out, 1, place),
         Checked::Scalar(place) => put_two(out, 2, place),
         Checked::Length(place) => put_two(out, 3, place),
@@ -121,12 +113,23 @@ pub fn answer(c: Checked, n: usize, out: &mut [usize])
 
 // The same of the levels' answer, with the level count.
 fn answer_levels(a: Answer, out: &mut [usize])
-    ensures { λ _. ⌜ now (out .exit) ≡ answered (verdict a) (countIn a) (now (out .entry)) ⌝ }
+    ensures { λ _. ⌜ now (out .exit) ≡ answered (verdict a) (now (out .entry)) ⌝ }
 {
     match a {
         Answer::Levels(n) => put_two(out, 0, n),
-        Answer::Refused(c) => answer(c, 0, out),
+        Answer::Refused(c) => answer(c, out),
         Answer::TooMany => put_two(out, 5, 12),
+    }
+}
+
+// Whether an answer leaves the lists as they were: refusals 1 to 4.
+fn untouched(a: Answer) -> bool
+    ensures { λ r. ⌜ r ≡ untouchedBy (verdict a) ⌝ }
+{
+    match a {
+        Answer::Levels(_) => false,
+        Answer::Refused(c) => !check::is_sound(c),
+        Answer::TooMany => false,
     }
 }
 
@@ -144,39 +147,43 @@ pub extern "C" fn lattice_check(
     eps: &[f64],
     out: &mut [usize],
 )
-    ensures { λ _. ⌜ now (out .exit) ≡ answered (verdictOf (checkOf (inputOf (now (cells .entry)) (now (scalars .entry))) (now (xn .entry)) (now (xh .entry)) (now (yn .entry)) (now (yh .entry)) (now (zn .entry)) (now (zh .entry)) (now (eps .entry)))) 0 (now (out .entry)) ⌝ }
+    ensures { λ _. ⌜ now (out .exit) ≡ answered (checkWith (handed (now (cells .entry)) (now (scalars .entry)) (now (xn .entry)) (now (xh .entry)) (now (yn .entry)) (now (yh .entry)) (now (zn .entry)) (now (zh .entry))) (now (eps .entry))) (now (out .entry)) ⌝ }
 {
     answer(
         check::check(input(cells, scalars), xn, xh, yn, yh, zn, zh, eps),
-        0,
         out,
     );
 }
 
 // ---- lines
 
-fn put_line(l: Line, from: usize, ends: &mut [usize])
-    requires { ⌜ (from < 4096) × (length (l .ends) ≡ 65) ⌝ }
-    ensures { λ _. ⌜ now (ends .exit) ≡ sets (now (ends .entry)) from (l .ends) ⌝ }
+// The ends of a line from a place on. The place behind them.
+fn put_line(line: [usize; 65], from: usize, ends: &mut [usize]) -> usize
+    requires { ⌜ from < 2 ^ 32 ⌝ }
+    ensures { λ r. ⌜ (Laid set (now (ends .entry)) from line (now (ends .exit)) r) × (r ≡ from + 65) ⌝ }
 {
+    let mut k = from;
     for m in 0..65 {
-        put(ends, from + m, l.ends[m]);
+        k = lists::push(ends, k, line[m]);
     }
+    k
 }
 
 // The cells and the ends of 36 lines, one behind another.
 fn put_lines(lines: [Line; 36], counts: &mut [usize], ends: &mut [usize])
-    requires { ⌜ Whole lines ⌝ }
-    ensures { λ _. ⌜ (now (counts .exit) ≡ sets (now (counts .entry)) 0 (allCells lines)) × (now (ends .exit) ≡ sets (now (ends .entry)) 0 (allEnds lines)) ⌝ }
+    ensures { λ _. ⌜ (now (counts .exit) ≡ laid (now (counts .entry)) 0 (rowsOf (lineCells lines) 36)) × (now (ends .exit) ≡ laid (now (ends .entry)) 0 (rowsOf (lineEnds lines) 36)) ⌝ }
 {
+    let mut k = 0;
     for q in 0..36 {
         let l = lines[q];
-        put(counts, q, l.cells);
-        put_line(l, 65 * q, ends);
+        let line = l.ends;
+        lists::push(counts, q, l.cells);
+        k = put_line(line, k, ends);
     }
 }
 
-// Refusals 1 to 5 as above, or 0 and the level count; the cells of axis a on level L at 3 L + a, and its ends from 65 (3 L + a) on; zeros elsewhere.
+// Refusals 1 to 5 as above, or 0 and the level count; the cells of axis a on level L at 3 L + a, and its ends from 65 (3 L + a) on; zeros elsewhere. After
+// refusals 1 to 4 these two lists are untouched.
 #[no_mangle]
 pub extern "C" fn lattice_levels(
     cells: &[usize],
@@ -192,19 +199,21 @@ pub extern "C" fn lattice_levels(
     counts: &mut [usize],
     ends: &mut [usize],
 )
-    ensures { λ _. ⌜ LevelsLeft (levelLinesOf (inputOf (now (cells .entry)) (now (scalars .entry))) (now (xn .entry)) (now (xh .entry)) (now (yn .entry)) (now (yh .entry)) (now (zn .entry)) (now (zh .entry)) coarsest) (now (out .entry)) (now (counts .entry)) (now (ends .entry)) (now (out .exit)) (now (counts .exit)) (now (ends .exit)) ⌝ }
+    ensures { λ _. ⌜ LevelsLeft (handed (now (cells .entry)) (now (scalars .entry)) (now (xn .entry)) (now (xh .entry)) (now (yn .entry)) (now (yh .entry)) (now (zn .entry)) (now (zh .entry))) coarsest (now (out .entry)) (now (counts .entry)) (now (ends .entry)) (now (out .exit)) (now (counts .exit)) (now (ends .exit)) ⌝ }
 {
     let found = levels::levels(input(cells, scalars), xn, xh, yn, yh, zn, zh, coarsest);
     let a = found.answer;
     let lines = found.lines;
     answer_levels(a, out);
-    put_lines(lines, counts, ends);
+    if !untouched(a) {
+        put_lines(lines, counts, ends);
+    }
 }
 
 // ---- maps
 
 fn put_numbers(xs: [C64; 129], out: &mut [f64])
-    ensures { λ _. ⌜ now (out .exit) ≡ laidAll (now (out .entry)) 0 xs ⌝ }
+    ensures { λ _. ⌜ now (out .exit) ≡ laidNumbers (now (out .entry)) 0 xs ⌝ }
 {
     for k in 0..129 {
         numbers::put(out, k, xs[k]);
@@ -226,7 +235,7 @@ pub extern "C" fn lattice_maps(
     across: &mut [f64],
     along: &mut [f64],
 ) -> usize
-    ensures { λ r. ⌜ MapsLeft (ltb axis 3 && isSound (checkStretches (inputOf (now (cells .entry)) (now (scalars .entry))) (now (xn .entry)) (now (xh .entry)) (now (yn .entry)) (now (yh .entry)) (now (zn .entry)) (now (zh .entry)))) (latticeOf (inputOf (now (cells .entry)) (now (scalars .entry))) (now (xn .entry)) (now (xh .entry)) (now (yn .entry)) (now (yh .entry)) (now (zn .entry)) (now (zh .entry))) axis (now (across .entry)) (now (along .entry)) (now (across .exit)) (now (along .exit)) r ⌝ }
+    ensures { λ r. ⌜ MapsLeft (handed (now (cells .entry)) (now (scalars .entry)) (now (xn .entry)) (now (xh .entry)) (now (yn .entry)) (now (yh .entry)) (now (zn .entry)) (now (zh .entry))) axis (now (across .entry)) (now (along .entry)) (now (across .exit)) (now (along .exit)) r ⌝ }
 {
     if axis > 2 {
         return 0;
@@ -246,15 +255,6 @@ pub extern "C" fn lattice_maps(
 
 // ---- rows
 
-fn lesser(a: usize, b: usize) -> usize
-    ensures { λ r. ⌜ r ≡ min a b ⌝ }
-{
-    if a < b {
-        return a;
-    }
-    b
-}
-
 // Row r, from place `from` of the lists on. The place behind it.
 fn put_row(
     l: Lattice,
@@ -269,10 +269,10 @@ fn put_row(
     requires { ⌜ r < unknownsOf (l .grid) ⌝ }
     requires { ⌜ 2 * unknownsOf (l .grid) ≤ length (now eps) ⌝ }
     requires { ⌜ from < 1000000 ⌝ }
-    ensures { λ n. ⌜ Wrote (now (columns .entry)) (now (values .entry)) from (rowInto (medium l (now (st .entry))) (numberAt (now (eps .entry))) r) (now (columns .exit)) (now (values .exit)) n ⌝ }
+    ensures { λ n. ⌜ Wrote (now (columns .entry)) (now (values .entry)) from (rowInto (fullLattice l (now (st .entry))) (numberAt (now (eps .entry))) r) (now (columns .exit)) (now (values .exit)) n ⌝ }
 {
-    let a = lesser(from, columns.len());
-    let b = lesser(2 * from, values.len());
+    let a = lists::lesser(from, columns.len());
+    let b = lists::lesser(2 * from, values.len());
     from + rows::row_into(l, st, eps, r, &mut columns[a..], &mut values[b..])
 }
 
@@ -289,14 +289,14 @@ fn put_rows(
     requires { ⌜ Limits (l .grid) ⌝ }
     requires { ⌜ n ≡ unknownsOf (l .grid) ⌝ }
     requires { ⌜ 2 * unknownsOf (l .grid) ≤ length (now eps) ⌝ }
-    ensures { λ r. ⌜ RowsLeft true (medium l (now (st .entry))) (numberAt (now (eps .entry))) n (now (starts .entry)) (now (columns .entry)) (now (values .entry)) (now (starts .exit)) (now (columns .exit)) (now (values .exit)) r ⌝ }
+    ensures { λ r. ⌜ AllLaid (rowInto (fullLattice l (now (st .entry))) (numberAt (now (eps .entry)))) n (now (starts .entry)) (now (columns .entry)) (now (values .entry)) (now (starts .exit)) (now (columns .exit)) (now (values .exit)) r ⌝ }
 {
     let mut from = 0;
     for r in 0..n {
-        put(starts, r, from);
+        lists::push(starts, r, from);
         from = put_row(l, st, eps, r, from, columns, values);
     }
-    put(starts, n, from);
+    lists::push(starts, n, from);
     from
 }
 
@@ -317,7 +317,7 @@ pub extern "C" fn lattice_rows(
     columns: &mut [usize],
     values: &mut [f64],
 ) -> usize
-    ensures { λ r. ⌜ RowsLeft (isSound (checkOf (inputOf (now (cells .entry)) (now (scalars .entry))) (now (xn .entry)) (now (xh .entry)) (now (yn .entry)) (now (yh .entry)) (now (zn .entry)) (now (zh .entry)) (now (eps .entry)))) (latticeOf (inputOf (now (cells .entry)) (now (scalars .entry))) (now (xn .entry)) (now (xh .entry)) (now (yn .entry)) (now (yh .entry)) (now (zn .entry)) (now (zh .entry))) (numberAt (now (eps .entry))) (unknownsOf (inputOf (now (cells .entry)) (now (scalars .entry)) .grid)) (now (starts .entry)) (now (columns .entry)) (now (values .entry)) (now (starts .exit)) (now (columns .exit)) (now (values .exit)) r ⌝ }
+    ensures { λ r. ⌜ RowsLeft rowInto (handed (now (cells .entry)) (now (scalars .entry)) (now (xn .entry)) (now (xh .entry)) (now (yn .entry)) (now (yh .entry)) (now (zn .entry)) (now (zh .entry))) (now (eps .entry)) (now (starts .entry)) (now (columns .entry)) (now (values .entry)) (now (starts .exit)) (now (columns .exit)) (now (values .exit)) r ⌝ }
 {
     let v = input(cells, scalars);
     if !check::is_sound(check::check(v, xn, xh, yn, yh, zn, zh, eps)) {

@@ -86,8 +86,8 @@ fn input(nx: usize, ny: usize, nz: usize) -> Lattice {
     Lattice {
         grid,
         x: Edges::Pml,
-        y: Edges::Bloch(1.0, 0.0),
-        z: Edges::Bloch(0.0, 1.0),
+        y: Edges::Bloch(C64 { re: 1.0, im: 0.0 }),
+        z: Edges::Bloch(C64 { re: 0.0, im: 1.0 }),
         k0: 1.0,
         shift: 0.0,
     }
@@ -256,7 +256,7 @@ fn phased(axis: usize, re: f64, im: f64) -> Lattice {
     let grid = v.grid;
     let k0 = v.k0;
     let shift = v.shift;
-    let p = Edges::Bloch(re, im);
+    let p = Edges::Bloch(C64 { re, im });
     let q = Edges::Pml;
     if axis == 0 {
         return Lattice {

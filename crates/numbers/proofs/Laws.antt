@@ -2,7 +2,7 @@
 -- Assumes nothing.
 use Prim.Native.Nat.{ℕ, _+_, _*_, _/_, _<_, _≤_}
 use mathlib.Core.Path.{_≡_, refl, sym, _∙_}
-use mathlib.Core.Logic.{_≢_}
+use mathlib.Core.Logic.{_≢_, _⊎_, inl, inr}
 use mathlib.Core.List.{List}
 use mathlib.Core.Bool.{Bool, true, false, _&&_, _||_, cond}
 use native.Mathlib.Omega.{arith}
@@ -120,3 +120,14 @@ module _ (xs : List Float) (k : ℕ) where
   pub found-none : length xs / 2 ≤ k → noNumber ≡ foundAt xs k
   unfolding foundAt
   found-none h = rw (le-ltb k (length xs / 2) h)
+
+pub either-of : (a b : Bool) → (a || b) ≡ true → (a ≡ true) ⊎ (b ≡ true)
+either-of true b h = inl h
+either-of false b h = inr h
+
+pub or-left : {a : Bool} (b : Bool) → a ≡ true → (a || b) ≡ true
+or-left b h = rw h
+
+pub or-right : (a : Bool) {b : Bool} → b ≡ true → (a || b) ≡ true
+or-right true h = refl
+or-right false h = h

@@ -5,7 +5,12 @@ ghost use mathlib.Core.Path.{_≡_};
 ghost use Prim.Native.Nat.{_+_, _*_, _<_};
 ghost use lib.ListN.{length};
 ghost use Rattle.numbers.specs.Complex.{zeroNumber, oneNumber, sum, difference, product, squares, quotient, realOver, overReal, realTimes, negation, conjugate, oneMinus, inverse, finiteDouble, finite, isZero};
-ghost use Rattle.numbers.specs.Places.{places, numberAt, setNumber, foundAt};
+ghost use Rattle.numbers.specs.Places.{numberAt, setNumber, foundAt};
+
+pub mod collect;
+pub mod lists;
+pub mod terms;
+pub mod transpose;
 
 // A complex number: real part, then imaginary part.
 pub struct C64 {
@@ -159,13 +164,6 @@ pub fn is_zero(x: C64) -> bool
     ensures { λ r. ⌜ r ≡ isZero x ⌝ }
 {
     x.re == 0.0 && x.im == 0.0
-}
-
-// How many numbers a list of doubles holds: an odd double at its end is no place.
-pub fn count(xs: &[f64]) -> usize
-    ensures { λ r. ⌜ r ≡ places (now (xs .entry)) ⌝ }
-{
-    xs.len() / 2
 }
 
 // Number k of a list. `requires`: the layers above show that the list has it.

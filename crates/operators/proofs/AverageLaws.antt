@@ -1,11 +1,11 @@
 -- Laws of the averaged permittivities: the line through two hats, the sums over the hats, what is read, that the lists of nodes and of hats give what
 -- the two levels do, and the whole level.
 -- Assumes nothing.
-use Prim.Native.Nat.{ℕ, zero, suc, _+_, _-_, _*_, _<_, _≤_, _^_}
+use Prim.Native.Nat.{ℕ, suc, _+_, _-_, _*_, _<_, _≤_, _^_}
 use native.Mathlib.Omega.{arith}
 use mathlib.Core.Path.{_≡_, refl, sym, ap, _∙_}
 use mathlib.Core.Bool.{Bool}
-use mathlib.Core.List.{List, [], _∷_, List·Memᴰ as In, List·Memᴰ·head as head, List·Memᴰ·tail as tail, Memᴰ·append-left, Memᴰ·append-right}
+use mathlib.Core.List.{List, [], _∷_, List·Memᴰ as In}
 use lib.Dec.{T}
 use lib.IntN.{pos}
 use lib.ListN.{length, getD}
@@ -16,27 +16,30 @@ use Rattle.numbers.specs.Places.{numberAt, setNumber}
 use Rattle.lattice.specs.declared.grid.Grid3d.{Grid3d}
 use Rattle.lattice.specs.declared.grid.Position.{Position}
 use Rattle.lattice.specs.declared.levels.Three.{Three}
-use Rattle.lattice.specs.Grid.{axis3, nOf, nextAxis, lastAxis, placeOn, movedTo, atOf, unknownsOf, Limits, Inside}
-use Rattle.lattice.specs.Lattice.{Medium, tabulate}
-use Rattle.lattice.specs.Rows.{summed}
-use Rattle.lattice.specs.Terms.{each}
+use Rattle.lattice.specs.Grid.{nOf, nextAxis, lastAxis, placeOn, movedTo, atOf, unknownsOf, Limits, Inside}
+use Rattle.lattice.specs.Lattice.{FullLattice}
+use Rattle.numbers.specs.Lists.{tabulate, summed, each, laidNumbers, allFinite, readFrom}
 use Rattle.lattice.proofs.GridLaws.{next-low, last-low, n-most, place-inside, index-below, at-inside, unknowns-most}
 use Rattle.lattice.proofs.RowLaws.{small-float}
-use Rattle.lattice.proofs.TabulateLaws.{length-tabulate, tabulate-agree}
-use Rattle.weights.specs.Lists.{laidNumbers, allFinite}
+use Rattle.numbers.proofs.TabulateLaws.{length-tabulate, tabulate-agree}
 use Rattle.weights.specs.TwoLevels.{TwoLevels, coarseCells, nodeOn, fineGrid, coarseGrid, twoOf}
-use Rattle.weights.specs.Interpolate.{whole}
 use Rattle.weights.specs.CoarseEps.{edgeAlong, edgesAlong, inverted}
-use Rattle.weights.specs.Tables.{nodeNo, readFrom, cellFirst, cellLast, LineInside, NestedIn, ChainRoom}
-use Rattle.weights.proofs.EachLaws.{All, none, more, all-each}
+use Rattle.weights.specs.Tables.{nodeNo, cellFirst, cellLast, LineInside, NestedIn, ChainRoom}
+use Rattle.numbers.proofs.EachLaws.{All, all-each}
 use Rattle.weights.proofs.EpsLaws.{cell-most, cell-rises, Chaining, Chain, coarse-in, nested-in, chain-room, chaining-one}
-use Rattle.weights.proofs.ListLaws.{laid-numbers-length, read-back}
+use Rattle.numbers.proofs.ListLaws.{laid-numbers-length, read-back}
 use Rattle.weights.proofs.RowTheorems.{Agree, inverted-local}
 use Rattle.weights.proofs.TwoLevelLaws.{fine-n, coarse-n, node-at}
+use Rattle.weights.proofs.WholeLaws.{all-in}
+use Rattle.numbers.proofs.Equations.{tabulate-zero, tabulate-suc, readFrom-is}
+use Rattle.weights.proofs.Equations.{edgeAlong-is, edgesAlong-is, whole-is, cellFirst-is, cellLast-is}
+use Rattle.numbers.proofs.ElementLaws.{all-tabulate, each-first, each-later}
+use Rattle.lattice.proofs.PlaceLaws.{movedAcross, moved-across}
 use Rattle.operators.specs.declared.averaged.Hat.{Hat}
 use Rattle.operators.specs.declared.averaged.Weighed.{Weighed}
 use Rattle.operators.specs.Averaged.{
   lineEdges,
+  hatEdges,
   lineMean,
   weighLine,
   weighLines,
@@ -63,26 +66,16 @@ use Rattle.operators.specs.Averaged.{
 
 -- ---- the line through two nodes
 
--- a position with a place of the grid on each axis: the next, the last and its own
-line-in : (g : Grid3d) (a i j k x y last : ℕ) → a < 3 → x < nOf g (nextAxis a) → y < nOf g (lastAxis a) → last ≤ nOf g a
-    → LineInside g (movedTo (movedTo (record { component = a; i = i; j = j; k = k }) (nextAxis a) x) (lastAxis a) y) last
-unfolding movedTo nOf nextAxis lastAxis axis3
-line-in g zero i j k x y last c h v e = record { c-in = c; each-in = λ m b. record { c-in = c; i-in = omega arith; j-in = h; k-in = v } }
-line-in g (suc zero) i j k x y last c h v e = record { c-in = c; each-in = λ m b. record { c-in = c; i-in = v; j-in = omega arith; k-in = h } }
-line-in g (suc (suc zero)) i j k x y last c h v e = record { c-in = c; each-in = λ m b. record { c-in = c; i-in = h; j-in = v; k-in = omega arith } }
-line-in g (suc (suc (suc a))) i j k x y last c h v e = absurd (omega arith)
-
--- the position that the code moves from p: q by way of o
+-- p moved to two nodes across its component
 pub record Moved (p : Position) (x y : ℕ) (q : Position) : Type 0 where
-  pub is : q ≡ movedTo (movedTo p (nextAxis (p .component)) x) (lastAxis (p .component)) y
-
-pub moved : {p o q : Position} {b c x y : ℕ} → b ≡ nextAxis (p .component) → c ≡ lastAxis (p .component) → o ≡ movedTo p b x → q ≡ movedTo o c y → Moved p x y q
-moved {p} {o} {q} {b} {c} {x} {y} e f u v = record { is = rw (← e, ← f, ← u) v }
+  pub is : q ≡ movedAcross p x y
 
 pub line-inside : {g : Grid3d} {p q : Position} {x y last : ℕ} → Moved p x y q → p .component < 3
     → (x < nOf g (nextAxis (p .component))) × (y < nOf g (lastAxis (p .component))) → last ≤ nOf g (p .component) → LineInside g q last
 line-inside {g} {p} {q} {x} {y} {last} m c h e =
-    rw (m .is) (line-in g (p .component) (p .i) (p .j) (p .k) x y last c (h .0) (h .1) e)
+    let i : (movedAcross p x y .component < 3) × ((n : ℕ) → n < nOf g (p .component) → Inside g (movedTo (movedAcross p x y) (movedAcross p x y .component) n)) =
+    moved-across g p x y c (h .0) (h .1) in
+    rw (m .is) (record { c-in = i .0; each-in = λ n b. i .1 n (omega arith) })
 
 pub count-float : {g : Grid3d} (a first last : ℕ) → Limits g → last ≤ nOf g a → T (inFloat binary64 (pos (last - first)))
 count-float a first last l h = small-float (last - first) (omega (arith, n-most l a))
@@ -92,10 +85,10 @@ pub line-is : (g : Grid3d) (f : ℕ → C64) {p q : Position} (first last : ℕ)
     → u ≡ summed (inverted f) zeroNumber (edgesAlong g q first (last - first))
     → v ≡ realOver (mulF (mulF (h .weight) (k .weight)) (ofInt binary64 (pos (last - first)))) u → w ≡ sum (s .total) v
     → _≡_ {A = Weighed} (record { total = w; weight = addF (s .weight) (mulF (h .weight) (k .weight)) }) (weighLine g f p first (last - first) h s k)
-unfolding weighLine lineMean lineEdges edgesAlong whole
+unfolding weighLine lineMean lineEdges
 line-is g f {p} {q} first last h k s {u} {v} {w} m a b c =
     let n : ℕ = last - first in
-    rw (c, b, a, ← m .is, length-tabulate (edgeAlong g q) n first)
+    rw (c, b, a, ← m .is, whole-is, edgesAlong-is g q first n, length-tabulate (edgeAlong g q) n first)
 
 -- ---- sums over hats, one behind another: the rest, from hat q on, comes to the whole
 
@@ -131,18 +124,19 @@ module _ {fold : Weighed → List Hat → Weighed} {ns : List ℕ} {ws : List Fl
 
   module _ {one : Weighed → Hat → Weighed} (o : Fold fold one) {q : ℕ} {s′ : Weighed} (p : Adding fold ns ws j n s q s′) where
     pub adding-turn : {s″ : Weighed} → q < n → s″ ≡ one s′ (hatAt ns ws (j + q)) → Adding fold ns ws j n s (q + 1) s″
-    unfolding hatsIn tabulate
+    unfolding hatsIn
     adding-turn h e =
         let a : n - q ≡ suc (n - (q + 1)) = omega arith in
         let b : j + (q + 1) ≡ suc (j + q) = omega arith in
-        let r : fold s′ (hatAt ns ws (j + q) ∷ tabulate (hatAt ns ws) (n - (q + 1)) (suc (j + q))) ≡ fold s (hatsIn ns ws j n) = rw a at (p .same) in
+        let r : fold s′ (hatAt ns ws (j + q) ∷ tabulate (hatAt ns ws) (n - (q + 1)) (suc (j + q))) ≡ fold s (hatsIn ns ws j n) =
+        rw (a, tabulate-suc (hatAt ns ws) (n - (q + 1)) (j + q)) at (p .same) in
         record { same = rw (e, b) (sym (o .turn s′ (hatAt ns ws (j + q)) (tabulate (hatAt ns ws) (n - (q + 1)) (suc (j + q)))) ∙ r) }
 
     pub adding-end : n ≤ q → s′ ≡ fold s (hatsIn ns ws j n)
-    unfolding hatsIn tabulate
+    unfolding hatsIn
     adding-end h =
         let a : n - q ≡ 0 = omega arith in
-        let r : fold s′ [] ≡ fold s (hatsIn ns ws j n) = rw a at (p .same) in
+        let r : fold s′ [] ≡ fold s (hatsIn ns ws j n) = rw (a, tabulate-zero (hatAt ns ws) (j + q)) at (p .same) in
         sym (o .end s′) ∙ r
 
 pub nothing-is : {z : C64} → z ≡ zeroNumber → _≡_ {A = Weighed} (record { total = z; weight = zeroF }) nothing
@@ -151,10 +145,6 @@ nothing-is e = λ i. record { total = e i; weight = zeroF }
 
 -- ---- what is read
 
--- the edges of the lines through one hat and each of a list
-abbrev edgesBy : Grid3d → Position → ℕ → ℕ → List Hat → Hat → List ℕ
-edgesBy g p first n ks h = each (lineEdges g p first n h) ks
-
 module _ (f f′ : ℕ → C64) where
   module _ (g : Grid3d) (p : Position) (first n : ℕ) where
     line-local : (h : Hat) (s : Weighed) (k : Hat) → Agree f f′ (lineEdges g p first n h k) → weighLine g f p first n h s k ≡ weighLine g f′ p first n h s k
@@ -162,18 +152,18 @@ module _ (f f′ : ℕ → C64) where
     line-local h s k a = rw (inverted-local f f′ (lineEdges g p first n h k) zeroNumber a)
 
     lines-local : (h : Hat) (ks : List Hat) (s : Weighed) → Agree f f′ (each (lineEdges g p first n h) ks) → weighLines g f p first n h s ks ≡ weighLines g f′ p first n h s ks
-    unfolding weighLines each
+    unfolding weighLines
     lines-local h [] s a = refl
     lines-local h (k ∷ ks) s a =
-        rw (line-local h s k (λ c m. a c (Memᴰ·append-left (each (lineEdges g p first n h) ks) m)))
-        (lines-local h ks (weighLine g f′ p first n h s k) (λ c m. a c (Memᴰ·append-right (lineEdges g p first n h k) m)))
+        rw (line-local h s k (λ c m. a c (each-first (lineEdges g p first n h) k ks m)))
+        (lines-local h ks (weighLine g f′ p first n h s k) (λ c m. a c (each-later (lineEdges g p first n h) k ks m)))
 
-    all-local : (ks hs : List Hat) (s : Weighed) → Agree f f′ (each (edgesBy g p first n ks) hs) → weighAll g f p first n ks s hs ≡ weighAll g f′ p first n ks s hs
-    unfolding weighAll each
+    all-local : (ks hs : List Hat) (s : Weighed) → Agree f f′ (each (hatEdges g p first n ks) hs) → weighAll g f p first n ks s hs ≡ weighAll g f′ p first n ks s hs
+    unfolding weighAll
     all-local ks [] s a = refl
     all-local ks (h ∷ hs) s a =
-        rw (lines-local h ks s (λ c m. a c (Memᴰ·append-left (each (edgesBy g p first n ks) hs) m)))
-        (all-local ks hs (weighLines g f′ p first n h s ks) (λ c m. a c (Memᴰ·append-right (edgesBy g p first n ks h) m)))
+        rw (lines-local h ks s (λ c m. a c (each-first (hatEdges g p first n ks) h hs m)))
+        (all-local ks hs (weighLines g f′ p first n h s ks) (λ c m. a c (each-later (hatEdges g p first n ks) h hs m)))
 
 -- the permittivity of a coarse edge sees only what stands at the edges that it reads
 pub averaged-local : (t : TwoLevels) (f f′ : ℕ → C64) (r : ℕ) → ((c : ℕ) → In c (averagedReads t r) → f c ≡ f′ c) → averagedEps t f r ≡ averagedEps t f′ r
@@ -184,16 +174,6 @@ averaged-local t f f′ r h =
     (all-local f f′ (fineGrid t) p (cellStart t p) (cellCount t p) (hatsOn t p (lastAxis (p .component))) (hatsOn t p (nextAxis (p .component))) nothing h)
 
 -- ---- the edges that are read are edges of the fine grid
-
-module _ {A : Type 0} {P : A → Type 0} where
-  all-member : {xs : List A} {x : A} → All P xs → In x xs → P x
-  all-member (more p u) (head e) = rw e p
-  all-member (more p u) (tail m) = all-member u m
-
-  all-tabulate : (f : ℕ → A) (n k : ℕ) → ((q : ℕ) → k ≤ q → q < k + n → P (f q)) → All P (tabulate f n k)
-  unfolding tabulate
-  all-tabulate f zero k h = none
-  all-tabulate f (suc n) k h = more (h k (omega arith) (omega arith)) (all-tabulate f n (suc k) (λ q a b. h q (omega arith) (omega arith)))
 
 abbrev NodeBelow : ℕ → Hat → Type 0
 NodeBelow b h = h .node < b
@@ -209,15 +189,15 @@ EdgeOf g c = c < unknownsOf g
 module _ {g : Grid3d} (l : Limits g) (p : Position) (first n : ℕ) (c : p .component < 3) (b : first + n ≤ nOf g (p .component)) where
   line-low : (h k : Hat) → NodeBelow (nOf g (nextAxis (p .component))) h → NodeBelow (nOf g (lastAxis (p .component))) k
       → All (EdgeOf g) (lineEdges g p first n h k)
-  unfolding lineEdges edgesAlong edgeAlong
+  unfolding lineEdges
   line-low h k u v =
       let q : Position = movedTo (movedTo p (nextAxis (p .component)) (h .node)) (lastAxis (p .component)) (k .node) in
       let i : LineInside g q (first + n) = line-inside (record { is = refl }) c (u, v) b in
-      all-tabulate (edgeAlong g q) n first (λ m a o. index-below l (i .each-in m o))
+      rw (edgesAlong-is g q first n) (all-tabulate (edgeAlong g q) n first (λ m a o. rw (edgeAlong-is g q m) (index-below l (i .each-in m o))))
 
-  all-low : (ks hs : List Hat) → All (NodeBelow (nOf g (lastAxis (p .component)))) ks → All (NodeBelow (nOf g (nextAxis (p .component)))) hs
-      → All (EdgeOf g) (each (edgesBy g p first n ks) hs)
-  all-low ks hs v = all-each (edgesBy g p first n ks) (λ h u. all-each (lineEdges g p first n h) (λ k w. line-low h k u w) v)
+  pub all-low : (ks hs : List Hat) → All (NodeBelow (nOf g (lastAxis (p .component)))) ks → All (NodeBelow (nOf g (nextAxis (p .component)))) hs
+      → All (EdgeOf g) (each (hatEdges g p first n ks) hs)
+  all-low ks hs v = all-each (hatEdges g p first n ks) (λ h u. all-each (lineEdges g p first n h) (λ k w. line-low h k u w) v)
 
 -- readers that agree on the edges of the grid
 module _ (f f′ : ℕ → C64) where
@@ -229,10 +209,10 @@ module _ (f f′ : ℕ → C64) where
       let n : ℕ = cellLast nn p - first in
       let ks : List Hat = hatsBy ns ws cs p (lastAxis (p .component)) in
       let hs : List Hat = hatsBy ns ws cs p (nextAxis (p .component)) in
-      let low : All (EdgeOf g) (each (edgesBy g p first n ks) hs) =
+      let low : All (EdgeOf g) (each (hatEdges g p first n ks) hs) =
       all-low l p first n (d .c-in) (omega (arith, d .cell-rises, d .cell-in)) ks hs (hats-below (d .hats-fit (lastAxis (p .component)) (last-low (p .component))))
       (hats-below (d .hats-fit (nextAxis (p .component)) (next-low (p .component)))) in
-      ap meanOf (all-local f f′ g p first n ks hs nothing (λ c m. h c (all-member low m)))
+      ap meanOf (all-local f f′ g p first n ks hs nothing (λ c m. h c (all-in low c m)))
 
 -- ---- the mean of one edge, as the code works it out
 
@@ -255,8 +235,7 @@ module _ {g : Grid3d} {p : Position} {nn ns : List ℕ} {ws : List Float} {cs : 
 
   pub cell-fits : {y : ℕ} → y ≡ placeOn p (p .component)
       → (getD nn (65 * p .component + y) 0 ≤ getD nn (65 * p .component + y + 1) 0) × (getD nn (65 * p .component + y + 1) 0 ≤ nOf g (p .component))
-  unfolding cellFirst cellLast
-  cell-fits e = rw e (d .cell-rises, d .cell-in)
+  cell-fits e = rw (e, ← cellFirst-is nn p, ← cellLast-is nn p) (d .cell-rises, d .cell-in)
 
 pub average-is : (g : Grid3d) (f : ℕ → C64) {p : Position} (nn ns : List ℕ) (ws : List Float) (cs : List ℕ) {b c y : ℕ} {s : Weighed} {v : C64}
     → Spot p (nextAxis (p .component)) b → Spot p (lastAxis (p .component)) c → y ≡ placeOn p (p .component)
@@ -264,8 +243,8 @@ pub average-is : (g : Grid3d) (f : ℕ → C64) {p : Position} (nn ns : List ℕ
     ≡ weighAll g f p (getD nn (65 * p .component + y) 0) (getD nn (65 * p .component + y + 1) 0 - getD nn (65 * p .component + y) 0) (hatsIn ns ws (128 * c) (getD cs c 0)) nothing
     (hatsIn ns ws (128 * b) (getD cs b 0))
     → v ≡ overReal (s .total) (s .weight) → v ≡ averagedIn g nn ns ws cs f p
-unfolding averagedIn hatsBy cellFirst cellLast meanOf
-average-is g f nn ns ws cs x z e u v = rw (← x .is, ← z .is, ← e, ← u) v
+unfolding averagedIn hatsBy meanOf
+average-is g f {p} nn ns ws cs x z e u v = rw (cellFirst-is nn p, cellLast-is nn p, ← x .is, ← z .is, ← e, ← u) v
 
 -- ---- a loop over a level
 
@@ -275,12 +254,12 @@ pub averaging-turn : {gf gc : Grid3d} {nn ns : List ℕ} {ws : List Float} {cs :
     → ChainRoom (unknownsOf gf) (unknownsOf gc) from to xs → Chaining (averagedNo gf gc nn ns ws cs (readFrom xs from)) n to xs ys r
     → r < n → n ≡ unknownsOf gc → p ≡ atOf gc r → v ≡ averagedIn gf nn ns ws cs (readFrom ys from) p → zs ≡ setNumber ys (to + r) v
     → Chaining (averagedNo gf gc nn ns ws cs (readFrom xs from)) n to xs zs (r + 1)
-unfolding readFrom averagedNo
+unfolding averagedNo
 averaging-turn {gf} {gc} {nn} {ns} {ws} {cs} {n} {from} {to} {r} {xs} {ys} {zs} {p} {v} lf lc d m c h e o q z =
     let i : Inside gc (atOf gc r) = at-inside lc r (omega arith) in
     chaining-one c h
     (q ∙ ap (averagedIn gf nn ns ws cs (readFrom ys from)) o
-    ∙ averaged-agree (readFrom ys from) (readFrom xs from) lf (d .each-ready (atOf gc r) i) (λ c′ b. c .left (from + c′) (omega (arith, m .apart))))
+    ∙ averaged-agree (readFrom ys from) (readFrom xs from) lf (d .each-ready (atOf gc r) i) (λ c′ b. rw (readFrom-is ys from c′, readFrom-is xs from c′) (c .left (from + c′) (omega (arith, m .apart)))))
     z
 
 pub ready-at : {gf gc : Grid3d} {nn ns : List ℕ} {ws : List Float} {cs : List ℕ} {n r : ℕ} {p : Position} → Limits gc → AveragesReady gf gc nn ns ws cs → r < n
@@ -289,30 +268,35 @@ ready-at {r = r} {p = p} l d h e o = d .each-ready p (rw o (at-inside l r (omega
 
 -- ---- from the levels
 
+-- the fine places in an edge's cell
+module _ (t : TwoLevels) (lc : Limits (coarseGrid t)) {nn : List ℕ} (o : nn ≡ tabulate (nodeNo t) 195 0) {p : Position} (h : Inside (coarseGrid t) p) where
+  place-low : placeOn p (p .component) < 64
+  place-low = omega (arith, place-inside h (p .component), n-most lc (p .component))
+
+  pub first-same : cellFirst nn p ≡ cellStart t p
+  unfolding cellStart
+  first-same = cellFirst-is nn p ∙ node-at t o (p .component) (placeOn p (p .component)) (h .c-in) (omega (arith, place-low))
+
+  last-same : cellLast nn p ≡ nodeOn t (p .component) (placeOn p (p .component) + 1)
+  last-same =
+      let e : 65 * p .component + placeOn p (p .component) + 1 ≡ 65 * p .component + (placeOn p (p .component) + 1) = omega arith in
+      rw (cellLast-is nn p, e) (node-at t o (p .component) (placeOn p (p .component) + 1) (h .c-in) (omega (arith, place-low)))
+
+  pub count-same : cellLast nn p - cellFirst nn p ≡ cellCount t p
+  unfolding cellCount
+  count-same = rw (first-same, last-same)
+
 module _ {t : TwoLevels} (lc : Limits (coarseGrid t)) {nn ns : List ℕ} {ws : List Float} {cs : List ℕ} (o : nn ≡ tabulate (nodeNo t) 195 0) (d : Hats t ns ws cs) where
   hats-same : {p : Position} → Inside (coarseGrid t) p → (a : ℕ) → a < 3 → hatsBy ns ws cs p a ≡ hatsOn t p a
   unfolding hatsBy hatsOn
   hats-same {p} h a b = d .hats-are a (placeOn p a) b (omega (arith, place-inside h a, coarse-n t a))
 
   module _ {p : Position} (h : Inside (coarseGrid t) p) where
-    place-low : placeOn p (p .component) < 64
-    place-low = omega (arith, place-inside h (p .component), n-most lc (p .component))
-
-    first-same : cellFirst nn p ≡ cellStart t p
-    unfolding cellFirst cellStart
-    first-same = node-at t o (p .component) (placeOn p (p .component)) (h .c-in) (omega (arith, place-low))
-
-    last-same : cellLast nn p ≡ nodeOn t (p .component) (placeOn p (p .component) + 1)
-    unfolding cellLast
-    last-same =
-        let e : 65 * p .component + placeOn p (p .component) + 1 ≡ 65 * p .component + (placeOn p (p .component) + 1) = omega arith in
-        rw e (node-at t o (p .component) (placeOn p (p .component) + 1) (h .c-in) (omega (arith, place-low)))
-
     -- the mean from the lists is the mean of the two levels
     pub averaged-is : (f : ℕ → C64) → averagedIn (fineGrid t) nn ns ws cs f p ≡ averagedAt t f p
-    unfolding averagedIn averagedAt cellCount
+    unfolding averagedIn averagedAt
     averaged-is f =
-        rw (first-same, last-same, hats-same h (lastAxis (p .component)) (last-low (p .component)), hats-same h (nextAxis (p .component)) (next-low (p .component)))
+        rw (count-same t lc o h, first-same t lc o h, hats-same h (lastAxis (p .component)) (last-low (p .component)), hats-same h (nextAxis (p .component)) (next-low (p .component)))
 
   -- those of the whole level
   level-same : (f : ℕ → C64)
@@ -349,7 +333,7 @@ module _ {t : TwoLevels} (lc : Limits (coarseGrid t)) {nn ns : List ℕ} {ws : L
 
 -- ---- the whole: the code's grids and nodes are those of the levels, and so are the hats
 
-module _ {l : Medium} {fine coarse : Three} {gf gc : Grid3d} {nn : List ℕ} {from to : ℕ} {xs : List Float} (q : Chain l fine coarse gf gc nn from to xs)
+module _ {l : FullLattice} {fine coarse : Three} {gf gc : Grid3d} {nn : List ℕ} {from to : ℕ} {xs : List Float} (q : Chain l fine coarse gf gc nn from to xs)
     {ns : List ℕ} {ws : List Float} {cs : List ℕ} (d : Hats (twoOf l fine coarse) ns ws cs) where
   pub averages-ready : AveragesReady gf gc nn ns ws cs
   averages-ready =

@@ -4,12 +4,11 @@ use mathlib.Core.Path.{_≡_, refl}
 use mathlib.Core.List.{map}
 use lib.Ieee.{add, sub, mul, div, neg, le, ofBits, ofInt}
 use Rattle.numbers.specs.Complex.{zeroNumber, oneNumber, sum, difference, product, quotient, realOver, realTimes, squares, oneMinus, inverse}
-use Rattle.lattice.specs.Lattice.{tabulate}
+use Rattle.numbers.specs.Lists.{tabulate, before, summed}
 use Rattle.lattice.specs.Stretched.{mapAt, mapEntry, mapList}
-use Rattle.lattice.specs.Line.{finestEnds, joinsBy, joins, skips, joined, coarserEnds, placeOf, before, nodesOf}
+use Rattle.lattice.specs.Line.{finestEnds, joinsBy, joins, skips, joined, coarserEnds, placeOf, nodesOf}
 use Rattle.lattice.specs.Levels.{target}
-use Rattle.lattice.specs.Rows.{summed}
-use Rattle.lattice.specs.Terms.{columnsOf}
+use Rattle.numbers.specs.Terms.{columnsOf}
 use Rattle.lattice.specs.Cases as Lines
 use Rattle.lattice.specs.Cases.{Case, joining}
 use Rattle.weights.specs.Interpolate.{valueAt, valuePlaces, upTo, meets, outside, ruleBy, ruleOf, lowSide, highSide, whole, lowCoordinate, highCoordinate, ratio, ratioAt, twoSides, interpolated}

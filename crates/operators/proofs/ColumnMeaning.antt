@@ -12,7 +12,7 @@ use Rattle.operators.specs.Bits.{bitAt, mixOf}
 use Rattle.operators.specs.Columns.{keep, line, plane, block, row, picked, number}
 use Rattle.operators.specs.declared.columns.Picks.{Picks}
 use Rattle.operators.proofs.WordLaws.{bit-mix}
-use Rattle.operators.proofs.ColumnSorted.{In, Span, span-append, stack, stack-span, stack-in, in-stack}
+use Rattle.numbers.proofs.MemberLaws.{In, Span, span-append, stack, stack-zero, stack-suc, stack-span, stack-in, in-stack}
 
 -- lines
 line-span : (w base n i b e : ℕ) → b ≤ base + i → base + (i + n) ≤ e → Span b e (line w base n i)
@@ -53,9 +53,9 @@ lineOf : ℕ → ℕ → ℕ → ℕ → ℕ → ℕ → ℕ → List ℕ
 lineOf s t a b nx j start = line (mixOf (bitAt a j) t (bitAt b j) s) start nx 0
 
 plane-stack : (s t a b nx start n j : ℕ) → plane s t a b nx start n j ≡ stack (lineOf s t a b nx) nx start n j
-unfolding plane stack lineOf
-plane-stack s t a b nx start zero j = refl
-plane-stack s t a b nx start (suc n) j = rw (plane-stack s t a b nx (start + nx) n (suc j))
+unfolding plane lineOf
+plane-stack s t a b nx start zero j = rw (stack-zero (lineOf s t a b nx) nx start j)
+plane-stack s t a b nx start (suc n) j = rw (stack-suc (lineOf s t a b nx) nx start n j, plane-stack s t a b nx (start + nx) n (suc j))
 
 yes-y : Picks → ℕ → ℕ
 yes-y p k = mixOf (bitAt (p .sz) k) (p .sy) false 0
@@ -67,9 +67,9 @@ planeOf : Picks → ℕ → ℕ → ℕ → ℕ → List ℕ
 planeOf p nx ny k start = plane (p .sx) (p .tx) (yes-y p k) (or-y p k) nx start ny 0
 
 block-stack : (p : Picks) (nx ny start n k : ℕ) → block p nx ny start n k ≡ stack (planeOf p nx ny) (nx * ny) start n k
-unfolding block stack planeOf yes-y or-y
-block-stack p nx ny start zero k = refl
-block-stack p nx ny start (suc n) k = rw (block-stack p nx ny (start + nx * ny) n (suc k))
+unfolding block planeOf yes-y or-y
+block-stack p nx ny start zero k = rw (stack-zero (planeOf p nx ny) (nx * ny) start k)
+block-stack p nx ny start (suc n) k = rw (stack-suc (planeOf p nx ny) (nx * ny) start n k, block-stack p nx ny (start + nx * ny) n (suc k))
 
 -- rising
 lineOf-span : (s t a b nx k st : ℕ) → Span st (st + nx) (lineOf s t a b nx k st)

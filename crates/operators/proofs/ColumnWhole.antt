@@ -14,9 +14,10 @@ use Rattle.operators.specs.Pattern.{nameOf, nameAt, Ladder, rel, box, Pa
 use Rattle.operators.specs.Bits.{bitAt}
 use Rattle.operators.specs.Columns.{block, row, picked, number}
 use Rattle.operators.specs.declared.columns.Picks.{Picks}
-use Rattle.operators.proofs.RelationLaws.{and-both, both-and, either-of, or-left, or-right}
+use Rattle.operators.proofs.RelationLaws.{and-both, both-and}
+use Rattle.numbers.proofs.Laws.{either-of, or-left, or-right}
 use Rattle.operators.proofs.PatternTheorem.{row-live}
-use Rattle.operators.proofs.ColumnSorted.{In, Span, in-append, in-left, in-right, unique}
+use Rattle.numbers.proofs.MemberLaws.{In, Span, in-append, in-left, in-right, unique}
 use Rattle.operators.proofs.ColumnMeaning.{block-in, in-block, row-span}
 
 -- the words of a row of component a at p, for the columns of component b

@@ -15,30 +15,34 @@ use Rattle.numbers.specs.Complex.{oneF, negation}
 use Rattle.lattice.specs.declared.grid.Position.{Position}
 use Rattle.lattice.specs.declared.neighbours.Arrival.{Arrival}
 use Rattle.lattice.specs.declared.neighbours.Arrival.the-variants.{To, Beyond}
-use Rattle.lattice.specs.Grid.{axis3, nOf, nextAxis, lastAxis, placeOn, movedTo, withComponent, indexOf, atOf, Inside}
-use Rattle.lattice.specs.Lattice.{Medium, edgesOf}
-use Rattle.lattice.specs.Terms.{Term, columnsOf}
+use Rattle.lattice.specs.Grid.{nOf, nextAxis, lastAxis, placeOn, movedTo, withComponent, indexOf, atOf, Inside}
+use Rattle.lattice.specs.Lattice.{FullLattice, edgesOf}
+use Rattle.numbers.specs.Terms.{Term, columnsOf}
 use Rattle.lattice.specs.Neighbours.{shifted, arrived, neighbourOf, isNodeFixed}
 use Rattle.lattice.specs.Curls as Curls
-use Rattle.lattice.proofs.GridLaws.{axis-each, place-inside, moved-inside, with-inside, shift-below, next-low, last-low}
+use Rattle.numbers.proofs.Equations.{columnsOf-nil}
+use Rattle.lattice.proofs.Equations.{nextAxis-0, nextAxis-1, nextAxis-2, lastAxis-0, lastAxis-1, lastAxis-2, withComponent-is, neighbourOf-is}
+use Rattle.lattice.proofs.GridLaws.{place-inside, moved-inside, with-inside, shift-below, next-low, last-low}
 use Rattle.operators.specs.Relation.{Spot, Cube, Times}
 use Rattle.operators.specs.Relations0.{ahead, pick, divCube}
 use Rattle.operators.specs.Levels.{isBloch, spotOf}
-use Rattle.operators.proofs.ColumnSorted.{In}
+use Rattle.numbers.proofs.MemberLaws.{In, in-both, both-in}
+use Rattle.lattice.proofs.CurlLaws.{moved-component, with-component, with-place, to-column, here-column, ahead-is, behind-is, curlEAt-is, curlHAt-is, divergenceOf-is, gradientAt-is}
 use Rattle.operators.proofs.NeighbourSpots.{stepOn, step-none, shift-step, step-shift, moveCube, low3, moved-times, times-moved}
-use Rattle.operators.proofs.ListedPlaces.{in-both, both-in, Found, Lists, lists-same, lists-append, lists-free, free-append}
+use Rattle.operators.proofs.ListedPlaces.{Found, Lists, lists-same, lists-append, lists-free}
+use Rattle.lattice.proofs.ColumnLaws.{free-append}
 
 -- ---- differences
 
 -- q has component f, and is p moved along t
-abbrev pub Moves : Medium → Bool → Position → ℕ → ℕ → Position → Type 0
+abbrev pub Moves : FullLattice → Bool → Position → ℕ → ℕ → Position → Type 0
 Moves l up p t f q = (q .component ≡ f) × Times (moveCube l up t) (spotOf p) (spotOf q)
 
 pick-none : (b up : Bool) (n : ℕ) (bloch : Bool) (i : ℕ) → pick b (stepOn up n bloch) eqb i i ≡ true
 pick-none true up n bloch i = step-none up n bloch i
 pick-none false up n bloch i = eq-eqb i i refl
 
-move-none : (l : Medium) (up : Bool) (t : ℕ) (s : Spot) → Times (moveCube l up t) s s
+move-none : (l : FullLattice) (up : Bool) (t : ℕ) (s : Spot) → Times (moveCube l up t) s s
 move-none l up t s =
     record {
       x = pick-none (eqb 0 t) up (nOf (l .grid) 0) (isBloch l 0) (s .x);
@@ -46,65 +50,63 @@ move-none l up t s =
       z = pick-none (eqb 2 t) up (nOf (l .grid) 2) (isBloch l 2) (s .z);
     }
 
-moved-component : (p : Position) (f t k : ℕ) → movedTo (withComponent p f) t k .component ≡ f
-unfolding movedTo withComponent
-moved-component p f t k = axis-each (λ (q : Position). q .component ≡ f) t refl refl refl
-
-module _ (l : Medium) (p : Position) (inside : Inside (l .grid) p) (t f : ℕ) (ht : t < 3) (hf : f < 3) (up : Bool) where
+module _ (l : FullLattice) (p : Position) (inside : Inside (l .grid) p) (t f : ℕ) (ht : t < 3) (hf : f < 3) (up : Bool) where
   here-found : (c : ℕ) (w : C64) → In c (columnsOf (Curls.termHere l p f w)) → Found l (Moves l up p t f) c
-  unfolding Curls.termHere columnsOf withComponent
   here-found c w i =
       record {
         at = withComponent p f;
         inside = with-inside inside f hf;
-        is = ⊎-elim (λ e. sym e) (λ e. absurd e) i;
-        held = (refl, move-none l up t (spotOf p));
+        is = ⊎-elim (λ e. sym e) (λ e. absurd e) (rw here-column at i);
+        held = rw (withComponent-is p f) (refl, move-none l up t (spotOf p));
       }
 
   to-found : (c : ℕ) (w : C64) → In c (columnsOf (Curls.termTo (neighbourOf l (withComponent p f) t up) w)) → Found l (Moves l up p t f) c
-  unfolding neighbourOf columnsOf placeOn withComponent
-  to-found c w i = go (shifted (edgesOf l t) (nOf (l .grid) t) (placeOn p t) up) refl i
+  to-found c w i = go (shifted (edgesOf l t) (nOf (l .grid) t) (placeOn p t) up) refl (rw (neighbourOf-is, with-place) at i)
     where
       go : (s : Arrival) → shifted (edgesOf l t) (nOf (l .grid) t) (placeOn p t) up ≡ s
           → In c (columnsOf (Curls.termTo (arrived l (withComponent p f) t s) w)) → Found l (Moves l up p t f) c
-      go Beyond e i = absurd i
+      go Beyond e i = absurd (rw columnsOf-nil at i)
       go (To k v) e i =
           record {
             at = movedTo (withComponent p f) t k;
             inside = moved-inside (with-inside inside f hf) t k (shift-below (edgesOf l t) (nOf (l .grid) t) (placeOn p t) up k v (place-inside inside t) e);
-            is = ⊎-elim (λ j. sym j) (λ j. absurd j) i;
-            held = (moved-component p f t k, moved-times l up p f t ht k (shift-step l t (placeOn p t) k (place-inside inside t) up v e));
+            is = ⊎-elim (λ j. sym j) (λ j. absurd j) (rw to-column at i);
+            held = (
+              moved-component (withComponent p f) t k ∙ with-component p f,
+              moved-times l up p f t ht k (shift-step l t (placeOn p t) k (place-inside inside t) up v e),
+            );
           }
 
   moves-in : (q : Position) (w v : C64) → Moves l up p t f q
       → In (indexOf (l .grid) q) (columnsOf (Curls.termHere l p f w)) ⊎ In (indexOf (l .grid) q) (columnsOf (Curls.termTo (neighbourOf l (withComponent p f) t up) v))
-  unfolding neighbourOf Curls.termHere columnsOf placeOn withComponent
   moves-in q w v h =
       let m = times-moved l up p f q (h .0) t ht (h .1) in
       ⊎-elim
-      (λ e. inl (inl (ap (indexOf (l .grid)) (sym (m .1) ∙ ap (movedTo (withComponent p f) t) (sym e) ∙ here))))
-      (λ e. inr (rw (e .1) (inl (ap (indexOf (l .grid)) (sym (m .1))))))
+      (λ e. inl (rw here-column (inl (ap (indexOf (l .grid)) (sym (m .1) ∙ ap (movedTo (withComponent p f) t) (sym e) ∙ here)))))
+      (λ e. inr (rw (neighbourOf-is, with-place, e .1, to-column) (inl (ap (indexOf (l .grid)) (sym (m .1))))))
       (step-shift l t (placeOn p t) (placeOn q t) (place-inside inside t) up (m .0))
     where
       here : movedTo (withComponent p f) t (placeOn p t) ≡ withComponent p f
-      here = times-moved l up p f (withComponent p f) refl t ht (move-none l up t (spotOf p)) .1
+      here =
+          rw (← with-place p f t)
+          (times-moved l up p f (withComponent p f) (with-component p f) t ht (rw (withComponent-is p f) (move-none l up t (spotOf p))) .1)
 
-module _ (l : Medium) (p : Position) (inside : Inside (l .grid) p) (t f : ℕ) (ht : t < 3) (hf : f < 3) (sign : Float) where
+module _ (l : FullLattice) (p : Position) (inside : Inside (l .grid) p) (t f : ℕ) (ht : t < 3) (hf : f < 3) (sign : Float) where
   ahead-lists : Lists l (Moves l true p t f) (Curls.ahead l p t f sign)
-  unfolding Curls.ahead
   ahead-lists =
-      record {
+      rw ahead-is
+      (record {
         there = λ c i. ⊎-elim (to-found l p inside t f ht hf true c _) (here-found l p inside t f ht hf true c _) (in-both c _ _ i);
         back = λ q a h. both-in (indexOf (l .grid) q) _ _ (⊎-swap (moves-in l p inside t f ht hf true q _ _ h));
-      }
+      })
 
   behind-lists : Lists l (Moves l false p t f) (Curls.behind l p t f sign)
-  unfolding Curls.behind
   behind-lists =
-      record {
+      rw behind-is
+      (record {
         there = λ c i. ⊎-elim (here-found l p inside t f ht hf false c _) (to-found l p inside t f ht hf false c _) (in-both c _ _ i);
         back = λ q a h. both-in (indexOf (l .grid) q) _ _ (moves-in l p inside t f ht hf false q _ _ h);
-      }
+      })
 
 -- ---- the curls
 
@@ -118,15 +120,13 @@ record Axes (c f t : ℕ) : Type 0 where
   from-f : t ≡ f → ⊥
 
 axes-last : (c : ℕ) → c < 3 → Axes c (lastAxis c) (nextAxis c)
-unfolding lastAxis nextAxis axis3
-axes-last = low3 (λ c. Axes c (lastAxis c) (nextAxis c)) (omega arith) (omega arith) (omega arith)
+axes-last = low3 (λ c. Axes c (lastAxis c) (nextAxis c)) (rw (lastAxis-0, nextAxis-0) (omega arith)) (rw (lastAxis-1, nextAxis-1) (omega arith)) (rw (lastAxis-2, nextAxis-2) (omega arith))
 
 axes-next : (c : ℕ) → c < 3 → Axes c (nextAxis c) (lastAxis c)
-unfolding lastAxis nextAxis axis3
-axes-next = low3 (λ c. Axes c (nextAxis c) (lastAxis c)) (omega arith) (omega arith) (omega arith)
+axes-next = low3 (λ c. Axes c (nextAxis c) (lastAxis c)) (rw (lastAxis-0, nextAxis-0) (omega arith)) (rw (lastAxis-1, nextAxis-1) (omega arith)) (rw (lastAxis-2, nextAxis-2) (omega arith))
 
 -- on the axes a and b the same place, and on the third a step
-abbrev crossCube : Medium → Bool → ℕ → ℕ → Cube
+abbrev crossCube : FullLattice → Bool → ℕ → ℕ → Cube
 crossCube l up a b =
     record {
       x = pick (eqb 0 a || eqb 0 b) eqb (stepOn up (nOf (l .grid) 0) (isBloch l 0));
@@ -135,7 +135,7 @@ crossCube l up a b =
     }
 
 -- from an edge to a face that it reads, or from a face to an edge
-abbrev pub Crosses : Medium → Bool → Position → Position → Type 0
+abbrev pub Crosses : FullLattice → Bool → Position → Position → Type 0
 Crosses l up p q = (p .component ≡ q .component → ⊥) × Times (crossCube l up (p .component) (q .component)) (spotOf p) (spotOf q)
 
 module _ (a b t : ℕ) (axes : Axes a b t) (up : Bool) where
@@ -151,7 +151,7 @@ module _ (a b t : ℕ) (axes : Axes a b t) (up : Bool) where
       go false x false y true z = refl
       go false x false y false z = absurd (omega (arith, eqb-false d t x, eqb-false d a y, eqb-false d b z))
 
-  module _ (l : Medium) (p q : Spot) where
+  module _ (l : FullLattice) (p q : Spot) where
     move-cross : Times (moveCube l up t) p q → Times (crossCube l up a b) p q
     move-cross h =
         record {
@@ -168,7 +168,7 @@ module _ (a b t : ℕ) (axes : Axes a b t) (up : Bool) where
           z = third 2 (nOf (l .grid) 2) (isBloch l 2) (p .z) (q .z) (omega arith) ∙ h .z;
         }
 
-module _ (l : Medium) (up : Bool) (p q : Position) where
+module _ (l : FullLattice) (up : Bool) (p q : Position) where
   moves-cross : (t f : ℕ) → Axes (p .component) f t → Moves l up p t f q → Crosses l up p q
   moves-cross t f axes h = (
     (λ e. axes .differ (e ∙ h .0)),
@@ -196,7 +196,7 @@ module _ (l : Medium) (up : Bool) (p q : Position) where
           let x = axes-last c (a .c-in) in
           inr (cross-moves (lastAxis c) (nextAxis c) (axes-next c (a .c-in)) (omega (arith, b .c-in, h .0, n, x .differ, x .from-c, x .from-f, x .c-low, x .f-low, x .t-low)) h)
 
-module _ (l : Medium) (p : Position) (inside : Inside (l .grid) p) where
+module _ (l : FullLattice) (p : Position) (inside : Inside (l .grid) p) where
   curl-lists : (up : Bool) (ts us : List Term)
       → Lists l (Moves l up p (nextAxis (p .component)) (lastAxis (p .component))) ts
       → Lists l (Moves l up p (lastAxis (p .component)) (nextAxis (p .component))) us
@@ -206,31 +206,31 @@ module _ (l : Medium) (p : Position) (inside : Inside (l .grid) p) where
       (lists-append (Moves l up p (nextAxis (p .component)) (lastAxis (p .component))) (Moves l up p (lastAxis (p .component)) (nextAxis (p .component))) ts us u v)
 
   pub curl-e-lists : Lists l (Crosses l true p) (Curls.curlEAt l p)
-  unfolding Curls.curlEAt
   curl-e-lists =
       let c = p .component in
-      curl-lists true (Curls.ahead l p (nextAxis c) (lastAxis c) oneF) (Curls.ahead l p (lastAxis c) (nextAxis c) Curls.minusOneF)
+      rw curlEAt-is
+      (curl-lists true (Curls.ahead l p (nextAxis c) (lastAxis c) oneF) (Curls.ahead l p (lastAxis c) (nextAxis c) Curls.minusOneF)
       (ahead-lists l p inside (nextAxis c) (lastAxis c) (next-low c) (last-low c) oneF)
-      (ahead-lists l p inside (lastAxis c) (nextAxis c) (last-low c) (next-low c) Curls.minusOneF)
+      (ahead-lists l p inside (lastAxis c) (nextAxis c) (last-low c) (next-low c) Curls.minusOneF))
 
   pub curl-h-lists : Lists l (Crosses l false p) (Curls.curlHAt l p)
-  unfolding Curls.curlHAt
   curl-h-lists =
       let c = p .component in
-      curl-lists false (Curls.behind l p (nextAxis c) (lastAxis c) oneF) (Curls.behind l p (lastAxis c) (nextAxis c) Curls.minusOneF)
+      rw curlHAt-is
+      (curl-lists false (Curls.behind l p (nextAxis c) (lastAxis c) oneF) (Curls.behind l p (lastAxis c) (nextAxis c) Curls.minusOneF)
       (behind-lists l p inside (nextAxis c) (lastAxis c) (next-low c) (last-low c) oneF)
-      (behind-lists l p inside (lastAxis c) (nextAxis c) (last-low c) (next-low c) Curls.minusOneF)
+      (behind-lists l p inside (lastAxis c) (nextAxis c) (last-low c) (next-low c) Curls.minusOneF))
 
 -- ---- the divergence and the gradient
 
 -- from a node to an edge that it reads
-abbrev pub Leaves : Medium → Position → Position → Type 0
+abbrev pub Leaves : FullLattice → Position → Position → Type 0
 Leaves l s q = Times (divCube (nOf (l .grid)) (isBloch l) (q .component)) (spotOf s) (spotOf q)
 
-abbrev OneOf : Medium → Position → Position → Type 0
+abbrev OneOf : FullLattice → Position → Position → Type 0
 OneOf l s q = Moves l false s 0 0 q ⊎ (Moves l false s 1 1 q ⊎ Moves l false s 2 2 q)
 
-one-leaves : (l : Medium) (s q : Position) → Inside (l .grid) q → OneOf l s q ↔ Leaves l s q
+one-leaves : (l : FullLattice) (s q : Position) → Inside (l .grid) q → OneOf l s q ↔ Leaves l s q
 one-leaves l s q a = (⊎-elim (one 0) (⊎-elim (one 1) (one 2)), low3 (λ b. q .component ≡ b → Leaves l s q → OneOf l s q) x y z (q .component) (a .c-in) refl)
   where
     one : (b : ℕ) → Moves l false s b b q → Leaves l s q
@@ -245,10 +245,9 @@ one-leaves l s q a = (⊎-elim (one 0) (⊎-elim (one 1) (one 2)), low3 (λ b. q
     z : q .component ≡ 2 → Leaves l s q → OneOf l s q
     z e h = inr (inr (e, rw e at h))
 
-pub divergence-lists : (l : Medium) (s : Position) (c : ℕ) → Inside (l .grid) s → atOf (l .grid) c ≡ s → Lists l (Leaves l s) (Curls.divergenceOf l c)
-unfolding Curls.divergenceOf
+pub divergence-lists : (l : FullLattice) (s : Position) (c : ℕ) → Inside (l .grid) s → atOf (l .grid) c ≡ s → Lists l (Leaves l s) (Curls.divergenceOf l c)
 divergence-lists l s c a e =
-    rw e
+    rw (divergenceOf-is, e)
     (lists-same (OneOf l s) (Leaves l s) (one-leaves l s)
     (lists-append (Moves l false s 0 0) (λ q. Moves l false s 1 1 q ⊎ Moves l false s 2 2 q) (Curls.behind l s 0 0 oneF) (Curls.behind l s 1 1 oneF ++ Curls.behind l s 2 2 oneF)
     (behind-lists l s a 0 0 (omega arith) (omega arith) oneF)
@@ -256,14 +255,10 @@ divergence-lists l s c a e =
     (behind-lists l s a 1 1 (omega arith) (omega arith) oneF)
     (behind-lists l s a 2 2 (omega arith) (omega arith) oneF))))
 
-pub gradient-lists : (l : Medium) (p : Position) → Inside (l .grid) p
+pub gradient-lists : (l : FullLattice) (p : Position) → Inside (l .grid) p
     → Lists l (λ s. Moves l true p (p .component) 0 s × (isNodeFixed l (indexOf (l .grid) s) ≡ false)) (Curls.gradientAt l p)
-unfolding Curls.gradientAt
 gradient-lists l p a =
-    rw (← free-append l (Curls.termTo (neighbourOf l (withComponent p 0) (p .component) true) (Curls.halfWeight l p (p .component) oneF)) (Curls.termHere l p 0 (negation (Curls.halfWeight l p (p .component) oneF))))
-    (whole (lists-free l (Moves l true p (p .component) 0) (Curls.ahead l p (p .component) 0 oneF) (ahead-lists l p a (p .component) 0 (a .c-in) (omega arith) oneF)))
-  where
-    whole : Lists l (λ s. Moves l true p (p .component) 0 s × (isNodeFixed l (indexOf (l .grid) s) ≡ false)) (Curls.freeNodes l (Curls.ahead l p (p .component) 0 oneF))
-        → Lists l (λ s. Moves l true p (p .component) 0 s × (isNodeFixed l (indexOf (l .grid) s) ≡ false))
-        (Curls.freeNodes l (Curls.termTo (neighbourOf l (withComponent p 0) (p .component) true) (Curls.halfWeight l p (p .component) oneF) ++ Curls.termHere l p 0 (negation (Curls.halfWeight l p (p .component) oneF))))
-    whole u = unfold Curls.ahead in u
+    let t = Curls.termTo (neighbourOf l (withComponent p 0) (p .component) true) (Curls.halfWeight l p (p .component) oneF) in
+    let u = Curls.termHere l p 0 (negation (Curls.halfWeight l p (p .component) oneF)) in
+    rw (gradientAt-is, ← free-append l t u, ← ahead-is l p (p .component) 0 oneF)
+    (lists-free l (Moves l true p (p .component) 0) (Curls.ahead l p (p .component) 0 oneF) (ahead-lists l p a (p .component) 0 (a .c-in) (omega arith) oneF))

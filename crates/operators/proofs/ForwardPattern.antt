@@ -2,9 +2,9 @@
 -- Assumes nothing.
 use Prim.Native.Nat.{ℕ, zero, suc, _-_, _<_}
 use mathlib.Core.Path.{_≡_, refl, sym, ap, _∙_, subst}
-use mathlib.Core.Logic.{_⊎_, inl, inr, ⊎-elim, _↔_}
-use mathlib.Core.Bool.{Bool, true, false, not, _&&_, _||_, cond, false≢true}
-use mathlib.Core.List.{List, [], _∷_}
+use mathlib.Core.Logic.{_⊎_, _↔_}
+use mathlib.Core.Bool.{Bool, true, false, not, _&&_, _||_, false≢true}
+use mathlib.Core.List.{List}
 use native.Mathlib.Omega.{arith}
 use borrow.Author.Tests.{ne-eqb, eqb-false, lt-ltb, ltb-true}
 use lib.Dec.{eqb, ltb, lit<}
@@ -12,29 +12,34 @@ use lib.ListN.{length}
 use Rattle.numbers.specs.declared.C64.{C64}
 use Rattle.lattice.specs.declared.grid.Grid3d.{Grid3d}
 use Rattle.lattice.specs.declared.grid.Position.{Position}
-use Rattle.lattice.specs.Grid.{axis3, nOf, indexOf, atOf, unknownsOf, Limits, Inside}
-use Rattle.lattice.specs.Lattice.{Medium, edgesOf, isWall}
+use Rattle.lattice.specs.Grid.{nOf, indexOf, atOf, unknownsOf, Limits, Inside}
+use Rattle.lattice.specs.Lattice.{FullLattice, edgesOf, isWall}
 use Rattle.lattice.specs.Levels.{target, lineAt, cellsAt}
-use Rattle.lattice.specs.Line.{placeOf}
+use Rattle.lattice.specs.Line.{placeOf, coarserEnds, LineOver}
 use Rattle.lattice.specs.Stretched.{acrossMap}
-use Rattle.lattice.specs.Terms.{columnsOf}
+use Rattle.numbers.specs.Terms.{columnsOf}
+use Rattle.lattice.proofs.Equations.{lineAt-suc}
 use Rattle.lattice.proofs.GridLaws.{at-index, at-inside}
 use Rattle.lattice.proofs.LevelLaws.{line-over}
 use Rattle.weights.specs.Interpolate.{valuePlaces, takenPlaces}
-use Rattle.weights.specs.Product.{walled, keptPlaces, freePlaces, columnIn, productZ, productY, productColumns}
+use Rattle.weights.specs.Product.{walled, freePlaces, productColumns}
 use Rattle.weights.specs.Prolongation.{axisPlaces, isAlong, edgeAt}
-use Rattle.weights.specs.Transfer.{contains, turnedRow}
-use Rattle.weights.specs.TwoLevels.{TwoLevels, fineLine, coarseLine, fineCells, coarseCells, gridWith, fineGrid, coarseGrid, twoAt}
-use Rattle.weights.proofs.PairLaws.{both-lines, cells-some, level-limits}
+use Rattle.numbers.specs.Lists.{contains}
+use Rattle.numbers.specs.Transpose.{turnedRow}
+use Rattle.weights.specs.TwoLevels.{fineLine, coarseLine, fineCells, coarseCells, fineGrid, coarseGrid, twoAt}
+use Rattle.weights.proofs.Equations.{walled-is, coarseCells-is, fineCells-is, gridWith-is, edgeAt-is, isAlong-is}
+use Rattle.weights.proofs.PairLaws.{both-lines, level-limits}
+use Rattle.lattice.proofs.NestLaws.{cells-some}
 use Rattle.weights.proofs.ProductLaws.{barred, FreePlace, free-all, columns-product, terms-columns}
 use Rattle.weights.proofs.RowTheorems.{columns-free}
-use Rattle.operators.specs.Relation.{Spot, Then}
+use Rattle.operators.specs.Relation.{Spot, Within, Then}
 use Rattle.operators.specs.Base.{liveAt}
 use Rattle.operators.specs.Levels.{epsAt, forwardAt, turnedAt, gridAt, forwardRel, isOwn, isBloch, ladderOf, spotOf}
 use Rattle.operators.specs.Pattern.{Role, along, across, Name, roleOf, role, Ladder, coarser, rel, box, Forward, spotEdge, Row, Sound}
-use Rattle.operators.proofs.ColumnSorted.{In}
-use Rattle.operators.proofs.ListedPlaces.{contains-in, in-contains, index-one}
-use Rattle.operators.proofs.MemberLaws.{all-in, each-in, in-each, turned-columns}
+use Rattle.numbers.proofs.MemberLaws.{In, contains-in, in-contains, all-in}
+use Rattle.weights.proofs.TakenLaws.{taker-free, in-free, base-at, axis-places-at, coarse-cells, fine-cells, fine-grid-at, coarse-grid-at, Named, columns-named, named-columns}
+use Rattle.lattice.proofs.ColumnLaws.{index-one}
+use Rattle.numbers.proofs.Tutorial.{turned-columns}
 use Rattle.operators.proofs.ReachLaws.{Taken, value-taken}
 use Rattle.operators.proofs.RelationLaws.{and-both, both-and}
 use Rattle.operators.proofs.Sound.{base-same, base-near, base-live}
@@ -42,10 +47,10 @@ use Rattle.operators.proofs.Sound.{base-same, base-near, base-live}
 -- ---- which places are fixed
 
 -- live is not barred
-live-barred : (l : Medium) (a : ℕ) (r : Role) (m : ℕ) → liveAt (isBloch l a) r m ≡ not (barred (walled l a (isOwn r)) m)
-unfolding liveAt isBloch walled
-live-barred l a along m = refl
-live-barred l a across m = go (isWall (edgesOf l a)) (eqb m 0)
+live-barred : (l : FullLattice) (a : ℕ) (r : Role) (m : ℕ) → liveAt (isBloch l a) r m ≡ not (barred (walled l a (isOwn r)) m)
+unfolding liveAt isBloch
+live-barred l a along m = rw walled-is
+live-barred l a across m = rw walled-is (go (isWall (edgesOf l a)) (eqb m 0))
   where
     go : (w z : Bool) → (not w || not z) ≡ not (w && z)
     go true z = refl
@@ -55,34 +60,11 @@ not-false : (b : Bool) → not b ≡ true → b ≡ false
 not-false true h = absurd (false≢true h)
 not-false false h = refl
 
-pub live-free : (l : Medium) (a : ℕ) (r : Role) (m : ℕ) → liveAt (isBloch l a) r m ≡ true → barred (walled l a (isOwn r)) m ≡ false
+pub live-free : (l : FullLattice) (a : ℕ) (r : Role) (m : ℕ) → liveAt (isBloch l a) r m ≡ true → barred (walled l a (isOwn r)) m ≡ false
 live-free l a r m h = not-false (barred (walled l a (isOwn r)) m) (sym (live-barred l a r m) ∙ h)
 
-pub free-live : (l : Medium) (a : ℕ) (r : Role) (m : ℕ) → barred (walled l a (isOwn r)) m ≡ false → liveAt (isBloch l a) r m ≡ true
+pub free-live : (l : FullLattice) (a : ℕ) (r : Role) (m : ℕ) → barred (walled l a (isOwn r)) m ≡ false → liveAt (isBloch l a) r m ≡ true
 free-live l a r m h = live-barred l a r m ∙ ap not h
-
-kept-in : (w : Bool) (ms : List ℕ) (j : ℕ) → barred w j ≡ false → In j ms → In j (keptPlaces w ms)
-unfolding keptPlaces
-kept-in w (m ∷ ms) j h (inl e) = rw (ap (barred w) (sym e) ∙ h) (inl e)
-kept-in w (m ∷ ms) j h (inr i) = go (barred w m) (kept-in w ms j h i)
-  where
-    go : (b : Bool) → In j (keptPlaces w ms) → In j (cond b (keptPlaces w ms) (m ∷ keptPlaces w ms))
-    go true k = k
-    go false k = inr k
-
-module _ (t : TwoLevels) (a : ℕ) (own : Bool) (k j : ℕ) where
-  -- a place that takes anything is not fixed
-  taker-free : In j (freePlaces t a own k) → barred (walled (t .base) a own) k ≡ false
-  unfolding freePlaces
-  taker-free = go (barred (walled (t .base) a own) k)
-    where
-      go : (b : Bool) → In j (cond b [] (keptPlaces (walled (t .base) a own) (axisPlaces t a own k))) → b ≡ false
-      go true i = absurd i
-      go false i = refl
-
-  in-free : barred (walled (t .base) a own) k ≡ false → barred (walled (t .base) a own) j ≡ false → In j (axisPlaces t a own k) → In j (freePlaces t a own k)
-  unfolding freePlaces
-  in-free h g i = rw h (kept-in (walled (t .base) a own) (axisPlaces t a own k) j g i)
 
 -- ---- each place of the coarse line that is not fixed is reached
 
@@ -90,52 +72,73 @@ barred-not : (w : Bool) (i k : ℕ) → ((i ≡ 0 → ⊥) → k ≡ 0 → ⊥) 
 barred-not false i k h e = refl
 barred-not true i k h e = ne-eqb k 0 (h (eqb-false i 0 e))
 
-module _ (l : Medium) (limits : Limits (l .grid)) (L a : ℕ) (own : Bool) (i : ℕ) where
+module _ (l : FullLattice) (limits : Limits (l .grid)) (L a : ℕ) (own : Bool) (i : ℕ) where
   abbrev Takes : List ℕ → List ℕ → Type 0
   Takes es cs = i < length cs - 1 → Taken (λ k. takenPlaces (edgesOf l a) (valuePlaces cs own) own (placeOf es k own)) (length es - 1) i
 
   line-takes : (b : ℕ) → Takes (lineAt l b L) (lineAt l b (suc L))
-  unfolding lineAt
-  line-takes b h =
-      value-taken (acrossMap l b) (target L) (nOf (l .grid) b) (lineAt l b L) (line-over l limits b L) (line-over l limits b (suc L)) (edgesOf l a) i h own
+  line-takes b =
+      let coarse : LineOver (nOf (l .grid) b) (coarserEnds (acrossMap l b) (target L) (lineAt l b L)) = rw lineAt-suc at (line-over l limits b (suc L)) in
+      rw lineAt-suc (λ h. value-taken (acrossMap l b) (target L) (nOf (l .grid) b) (lineAt l b L) (line-over l limits b L) coarse (edgesOf l a) i h own)
 
   axis-takes : i < coarseCells (twoAt l L) a → Taken (axisPlaces (twoAt l L) a own) (fineCells (twoAt l L) a) i
-  unfolding coarseCells fineCells axisPlaces twoAt
-  axis-takes = both-lines l L a Takes line-takes
+  axis-takes h = go (both-lines l L a Takes line-takes (rw coarseCells-is at h))
+    where
+      go : Taken (λ k. takenPlaces (edgesOf l a) (valuePlaces (coarseLine (twoAt l L) a) own) own (placeOf (fineLine (twoAt l L) a) k own)) (length (fineLine (twoAt l L) a) - 1) i
+          → Taken (axisPlaces (twoAt l L) a own) (fineCells (twoAt l L) a) i
+      go t = record { by = t .by; low = rw fineCells-is (t .low); free = t .free; takes = rw axis-places-at (t .takes) }
 
   pub free-takes : i < coarseCells (twoAt l L) a → barred (walled l a own) i ≡ false
       → (k : ℕ) × (k < fineCells (twoAt l L) a) × In i (freePlaces (twoAt l L) a own k)
-  unfolding twoAt
   free-takes h e =
-      let t = axis-takes h in
-      (t .by, t .low, in-free (twoAt l L) a own (t .by) i (barred-not (walled l a own) i (t .by) (t .free) e) e (t .takes))
+      let t = axis-takes h in (
+        t .by,
+        t .low,
+        in-free (twoAt l L) a own (t .by) i (rw (base-at l L) (barred-not (walled l a own) i (t .by) (t .free) e)) (rw (base-at l L) e) (t .takes),
+      )
 
 -- ---- the cells of the levels
 
-module _ (l : Medium) (L : ℕ) where
-  pub fine-cells : (a : ℕ) → a < 3 → fineCells (twoAt l L) a ≡ cellsAt l a L
-  unfolding fineCells fineLine twoAt axis3 cellsAt
-  fine-cells zero h = refl
-  fine-cells (suc zero) h = refl
-  fine-cells (suc (suc zero)) h = refl
-  fine-cells (suc (suc (suc a))) h = absurd (omega arith)
-
-  pub coarse-cells : (a : ℕ) → a < 3 → coarseCells (twoAt l L) a ≡ cellsAt l a (suc L)
-  unfolding coarseCells coarseLine twoAt axis3 cellsAt
-  coarse-cells zero h = refl
-  coarse-cells (suc zero) h = refl
-  coarse-cells (suc (suc zero)) h = refl
-  coarse-cells (suc (suc (suc a))) h = absurd (omega arith)
-
+module _ (l : FullLattice) (L : ℕ) where
   pub grid-fine : gridAt l L ≡ fineGrid (twoAt l L)
-  unfolding gridAt fineGrid fineCells fineLine twoAt axis3 cellsAt
-  grid-fine = refl
+  unfolding gridAt
+  grid-fine = sym (fine-grid-at l L)
 
   pub grid-coarse : gridAt l (suc L) ≡ coarseGrid (twoAt l L)
-  unfolding gridAt coarseGrid coarseCells coarseLine twoAt axis3 cellsAt
-  grid-coarse = refl
+  unfolding gridAt
+  grid-coarse = sym (coarse-grid-at l L)
 
-pub grid-limits : (l : Medium) → Limits (l .grid) → (L : ℕ) → Limits (gridAt l L)
+  pub grid-x : gridAt l L .nx ≡ cellsAt l 0 L
+  unfolding gridAt
+  grid-x = rw gridWith-is
+
+  pub grid-y : gridAt l L .ny ≡ cellsAt l 1 L
+  unfolding gridAt
+  grid-y = rw gridWith-is
+
+  pub grid-z : gridAt l L .nz ≡ cellsAt l 2 L
+  unfolding gridAt
+  grid-z = rw gridWith-is
+
+  -- a position of the level, by its places
+  pub within : (p : Position) → Inside (gridAt l L) p → Within (box (ladderOf l) L) (spotOf p)
+  within p h =
+      record {
+        x = subst (λ (n : ℕ). p .i < n) grid-x (h .i-in);
+        y = subst (λ (n : ℕ). p .j < n) grid-y (h .j-in);
+        z = subst (λ (n : ℕ). p .k < n) grid-z (h .k-in);
+      }
+
+  pub within-inside : (p : Position) → p .component < 3 → Within (box (ladderOf l) L) (spotOf p) → Inside (gridAt l L) p
+  within-inside p h w =
+      record {
+        c-in = h;
+        i-in = subst (λ (n : ℕ). p .i < n) (sym grid-x) (w .x);
+        j-in = subst (λ (n : ℕ). p .j < n) (sym grid-y) (w .y);
+        k-in = subst (λ (n : ℕ). p .k < n) (sym grid-z) (w .z);
+      }
+
+pub grid-limits : (l : FullLattice) → Limits (l .grid) → (L : ℕ) → Limits (gridAt l L)
 unfolding gridAt
 grid-limits l limits L = level-limits l limits L
 
@@ -170,20 +173,20 @@ rel-three M zero d w = refl
 rel-three M (suc L) d w = rw (rel-three M L d w)
 
 -- not fixed, on axis a of level L
-abbrev pub liveOn : Medium → ℕ → ℕ → Role → ℕ → Bool
+abbrev pub liveOn : FullLattice → ℕ → ℕ → Role → ℕ → Bool
 liveOn l L a r i = ltb i (cellsAt l a L) && liveAt (isBloch l a) r i
 
 -- a place with weight lies in the coarse line and is not fixed
-weight-free : (l : Medium) → Limits (l .grid) → (L a : ℕ) → a < 3 → (own : Bool) (k i : ℕ) → In i (freePlaces (twoAt l L) a own k) → FreePlace (twoAt l L) a own i
+weight-free : (l : FullLattice) → Limits (l .grid) → (L a : ℕ) → a < 3 → (own : Bool) (k i : ℕ) → In i (freePlaces (twoAt l L) a own k) → FreePlace (twoAt l L) a own i
 weight-free l limits L a h own k i j =
     let c : coarseCells (twoAt l L) a ≡ cellsAt l a (suc L) = coarse-cells l L a h in
     all-in (free-all (twoAt l L) a own k (omega (arith, cells-some l limits a (suc L)))) i j
 
 -- so it is one of the next level's
-pub weight-low : (l : Medium) → Limits (l .grid) → (L a : ℕ) → a < 3 → (own : Bool) (k i : ℕ) → In i (freePlaces (twoAt l L) a own k) → i < cellsAt l a (suc L)
+pub weight-low : (l : FullLattice) → Limits (l .grid) → (L a : ℕ) → a < 3 → (own : Bool) (k i : ℕ) → In i (freePlaces (twoAt l L) a own k) → i < cellsAt l a (suc L)
 weight-low l limits L a h own k i j = omega (arith, weight-free l limits L a h own k i j .low, coarse-cells l L a h)
 
-module _ (l : Medium) (limits : Limits (l .grid)) (L a : ℕ) (h : a < 3) (r : Role) where
+module _ (l : FullLattice) (limits : Limits (l .grid)) (L a : ℕ) (h : a < 3) (r : Role) where
   pub forward-of : (k i : ℕ) → ladderOf l .forward L a r k i ≡ true → (k < cellsAt l a L) × In i (freePlaces (twoAt l L) a (isOwn r) k)
   unfolding forwardRel
   forward-of k i e =
@@ -195,17 +198,15 @@ module _ (l : Medium) (limits : Limits (l .grid)) (L a : ℕ) (h : a < 3) (r : R
   of-forward k i b j = both-and (lt-ltb k (cellsAt l a L) b) (in-contains i (freePlaces (twoAt l L) a (isOwn r) k) j)
 
   weight-starts : (k i : ℕ) → ladderOf l .forward L a r k i ≡ true → liveOn l L a r k ≡ true
-  unfolding twoAt
   weight-starts k i e =
       let b = forward-of k i e in
-      both-and (lt-ltb k (cellsAt l a L) (b .0)) (free-live l a r k (taker-free (twoAt l L) a (isOwn r) k i (b .1)))
+      both-and (lt-ltb k (cellsAt l a L) (b .0)) (free-live l a r k (rw base-at at (taker-free (twoAt l L) a (isOwn r) k i (b .1))))
 
   weight-ends : (k i : ℕ) → ladderOf l .forward L a r k i ≡ true → liveOn l (suc L) a r i ≡ true
-  unfolding twoAt
   weight-ends k i e =
       let j = forward-of k i e .1 in
       both-and (lt-ltb i (cellsAt l a (suc L)) (weight-low l limits L a h (isOwn r) k i j))
-      (free-live l a r i (weight-free l limits L a h (isOwn r) k i j .free))
+      (free-live l a r i (rw base-at at (weight-free l limits L a h (isOwn r) k i j .free)))
 
   weight-reaches : (i : ℕ) → liveOn l (suc L) a r i ≡ true → (k : ℕ) × (k < cellsAt l a L) × (ladderOf l .forward L a r k i ≡ true)
   weight-reaches i e =
@@ -220,7 +221,7 @@ and-map : (a : Bool) {b c : Bool} → (b ≡ true → c ≡ true) → (a && b) �
 and-map true f h = f h
 and-map false f h = h
 
-pub sound-of : (l : Medium) → Limits (l .grid) → Sound (three (ladderOf l))
+pub sound-of : (l : FullLattice) → Limits (l .grid) → Sound (three (ladderOf l))
 sound-of l limits =
     record {
       live = λ L d r i. liveOn l L (axisNo d) r i;
@@ -232,43 +233,17 @@ sound-of l limits =
       only-live = λ d w i j. and-map (ltb i (cellsAt l (axisNo d) 0)) (base-live (cellsAt l (axisNo d) 0) (isBloch l (axisNo d)) w i j);
     }
 
-pub sound-live : (l : Medium) (limits : Limits (l .grid)) (L d : ℕ) (r : Role) (i : ℕ) → sound-of l limits .live L d r i ≡ liveOn l L (axisNo d) r i
+pub sound-live : (l : FullLattice) (limits : Limits (l .grid)) (L d : ℕ) (r : Role) (i : ℕ) → sound-of l limits .live L d r i ≡ liveOn l L (axisNo d) r i
 unfolding sound-of
 sound-live l limits L d r i = refl
 
 -- ---- the columns of a forward row
 
--- column c of a row of the prolongation: its places
-pub record Named (t : TwoLevels) (p : Position) (c : ℕ) : Type 0 where
-  pub i : ℕ
-  pub j : ℕ
-  pub k : ℕ
-  pub x : In i (freePlaces t 0 (isAlong p 0) (p .i))
-  pub y : In j (freePlaces t 1 (isAlong p 1) (p .j))
-  pub z : In k (freePlaces t 2 (isAlong p 2) (p .k))
-  pub is : c ≡ indexOf (coarseGrid t) (edgeAt p i j k)
-
-module _ (t : TwoLevels) (p : Position) (c : ℕ) where
-  columns-named : In c (productColumns t p) → Named t p c
-  unfolding productColumns productY productZ columnIn
-  columns-named h =
-      let x = each-in (productY t p) (freePlaces t 0 (isAlong p 0) (p .i)) c h in
-      let y = each-in (productZ t p (x .by)) (freePlaces t 1 (isAlong p 1) (p .j)) c (x .gives) in
-      let z = each-in (columnIn (coarseGrid t) p (x .by) (y .by)) (freePlaces t 2 (isAlong p 2) (p .k)) c (y .gives) in
-      record { i = x .by; j = y .by; k = z .by; x = x .there; y = y .there; z = z .there; is = ⊎-elim (λ e. e) (λ n. absurd n) (z .gives) }
-
-  named-columns : Named t p c → In c (productColumns t p)
-  unfolding productColumns productY productZ columnIn
-  named-columns n =
-      in-each (productY t p) (freePlaces t 0 (isAlong p 0) (p .i)) c (n .i) (n .x)
-      (in-each (productZ t p (n .i)) (freePlaces t 1 (isAlong p 1) (p .j)) c (n .j) (n .y)
-      (in-each (columnIn (coarseGrid t) p (n .i) (n .j)) (freePlaces t 2 (isAlong p 2) (p .k)) c (n .k) (n .z) (inl (n .is))))
-
 pub own-role : (b : Bool) → isOwn (roleOf b) ≡ b
 own-role true = refl
 own-role false = refl
 
-module _ (l : Medium) (limits : Limits (l .grid)) (f : ℕ → C64) (L : ℕ) where
+module _ (l : FullLattice) (limits : Limits (l .grid)) (f : ℕ → C64) (L : ℕ) where
   -- the columns of any row
   pub forward-columns : (r : ℕ) → columnsOf (forwardAt l f L r) ≡ productColumns (twoAt l L) (atOf (gridAt l L) r)
   unfolding forwardAt
@@ -286,47 +261,45 @@ module _ (l : Medium) (limits : Limits (l .grid)) (f : ℕ → C64) (L : ℕ) wh
 
     -- the places of a column are those of its edge
     named-edge : (n : Named (twoAt l L) p (indexOf (gridAt l (suc L)) q)) → edgeAt p (n .i) (n .j) (n .k) ≡ q
-    unfolding edgeAt gridAt gridWith
     named-edge n =
-        let g = grid-coarse l L in
         let k = grid-limits l limits (suc L) in
         let e : Inside (gridAt l (suc L)) (edgeAt p (n .i) (n .j) (n .k)) =
-        record {
-          c-in = from .c-in;
-          i-in = weight-low l limits L 0 (lit< tt) (isAlong p 0) (p .i) (n .i) (n .x);
-          j-in = weight-low l limits L 1 (lit< tt) (isAlong p 1) (p .j) (n .j) (n .y);
-          k-in = weight-low l limits L 2 (lit< tt) (isAlong p 2) (p .k) (n .k) (n .z);
-        } in
-        index-one k e to (ap (λ (g : Grid3d). indexOf g (edgeAt p (n .i) (n .j) (n .k))) g ∙ sym (n .is))
+        rw edgeAt-is
+        (within-inside l (suc L) (record { component = p .component; i = n .i; j = n .j; k = n .k }) (from .c-in)
+        (record {
+          x = weight-low l limits L 0 (lit< tt) (isAlong p 0) (p .i) (n .i) (n .x);
+          y = weight-low l limits L 1 (lit< tt) (isAlong p 1) (p .j) (n .j) (n .y);
+          z = weight-low l limits L 2 (lit< tt) (isAlong p 2) (p .k) (n .k) (n .z);
+        })) in
+        index-one k e to (ap (λ (g : Grid3d). indexOf g (edgeAt p (n .i) (n .j) (n .k))) (grid-coarse l L) ∙ sym (n .is))
 
     -- on one axis
     own-as : (a k i : ℕ) → In i (freePlaces (twoAt l L) a (isAlong p a) k) ↔ In i (freePlaces (twoAt l L) a (isOwn (role (p .component) a)) k)
-    unfolding isAlong
-    own-as a k i = (
-      subst (λ (b : Bool). In i (freePlaces (twoAt l L) a b k)) (sym (own-role (eqb a (p .component)))),
-      subst (λ (b : Bool). In i (freePlaces (twoAt l L) a b k)) (own-role (eqb a (p .component))),
-    )
+    own-as a k i =
+        let e : isOwn (role (p .component) a) ≡ isAlong p a = own-role (eqb a (p .component)) ∙ sym (isAlong-is p a) in (
+          subst (λ (b : Bool). In i (freePlaces (twoAt l L) a b k)) (sym e),
+          subst (λ (b : Bool). In i (freePlaces (twoAt l L) a b k)) e,
+        )
 
     forward-to : In (indexOf (gridAt l (suc L)) q) row → (p .component ≡ q .component) × Forward (ladderOf l) L (p .component) (spotOf p) (spotOf q)
-    unfolding edgeAt gridAt gridWith
     forward-to h =
         let c = indexOf (gridAt l (suc L)) q in
         let n = columns-named (twoAt l L) p c (subst (In c) row-is h) in
-        let e = named-edge n in
+        let e : record { component = p .component; i = n .i; j = n .j; k = n .k } ≡ q = sym (edgeAt-is p (n .i) (n .j) (n .k)) ∙ named-edge n in
+        let w = within l L p from in
         let a = p .component in (
           ap (λ (u : Position). u .component) e,
           record {
             x = subst (λ (m : ℕ). ladderOf l .forward L 0 (role a 0) (p .i) m ≡ true) (ap (λ (u : Position). u .i) e)
-                (of-forward l limits L 0 (lit< tt) (role a 0) (p .i) (n .i) (from .i-in) (own-as 0 (p .i) (n .i) .0 (n .x)));
+                (of-forward l limits L 0 (lit< tt) (role a 0) (p .i) (n .i) (w .x) (own-as 0 (p .i) (n .i) .0 (n .x)));
             y = subst (λ (m : ℕ). ladderOf l .forward L 1 (role a 1) (p .j) m ≡ true) (ap (λ (u : Position). u .j) e)
-                (of-forward l limits L 1 (lit< tt) (role a 1) (p .j) (n .j) (from .j-in) (own-as 1 (p .j) (n .j) .0 (n .y)));
+                (of-forward l limits L 1 (lit< tt) (role a 1) (p .j) (n .j) (w .y) (own-as 1 (p .j) (n .j) .0 (n .y)));
             z = subst (λ (m : ℕ). ladderOf l .forward L 2 (role a 2) (p .k) m ≡ true) (ap (λ (u : Position). u .k) e)
-                (of-forward l limits L 2 (lit< tt) (role a 2) (p .k) (n .k) (from .k-in) (own-as 2 (p .k) (n .k) .0 (n .z)));
+                (of-forward l limits L 2 (lit< tt) (role a 2) (p .k) (n .k) (w .z) (own-as 2 (p .k) (n .k) .0 (n .z)));
           },
         )
 
     forward-from : p .component ≡ q .component → Forward (ladderOf l) L (p .component) (spotOf p) (spotOf q) → In (indexOf (gridAt l (suc L)) q) row
-    unfolding edgeAt
     forward-from e t =
         let c = indexOf (gridAt l (suc L)) q in
         let a = p .component in
@@ -339,7 +312,7 @@ module _ (l : Medium) (limits : Limits (l .grid)) (f : ℕ → C64) (L : ℕ) wh
           x = own-as 0 (p .i) (q .i) .1 (forward-of l limits L 0 (lit< tt) (role a 0) (p .i) (q .i) (t .x) .1);
           y = own-as 1 (p .j) (q .j) .1 (forward-of l limits L 1 (lit< tt) (role a 1) (p .j) (q .j) (t .y) .1);
           z = own-as 2 (p .k) (q .k) .1 (forward-of l limits L 2 (lit< tt) (role a 2) (p .k) (q .k) (t .z) .1);
-          is = λ i. indexOf (g i) (record { component = sym e i; i = q .i; j = q .j; k = q .k });
+          is = rw edgeAt-is (λ i. indexOf (g i) (record { component = sym e i; i = q .i; j = q .j; k = q .k }));
         } in
         subst (In c) (sym row-is) (named-columns (twoAt l L) p c n)
 

@@ -10,27 +10,28 @@ use borrow.Author.Tests.{lt-ltb}
 use lib.Dec.{eqb, ltb}
 use Rattle.numbers.specs.declared.C64.{C64}
 use Rattle.lattice.specs.declared.grid.Position.{Position}
-use Rattle.lattice.specs.Grid.{cellsOf, indexOf, atOf, unknownsOf, Limits, Inside}
-use Rattle.lattice.specs.Lattice.{Medium, edgesOf}
+use Rattle.lattice.specs.Grid.{indexOf, atOf, unknownsOf, Limits, Inside}
+use Rattle.lattice.specs.Lattice.{FullLattice}
 use Rattle.lattice.specs.Levels.{cellsAt}
-use Rattle.lattice.specs.Neighbours.{onWall, fixedAt}
-use Rattle.lattice.specs.Terms.{columnsOf}
+use Rattle.lattice.specs.Neighbours.{fixedAt}
+use Rattle.numbers.specs.Terms.{columnsOf}
+use Rattle.lattice.proofs.Equations.{cellsOf-is, indexOf-is}
 use Rattle.lattice.proofs.GridLaws.{at-inside, index-at, index-below}
 use Rattle.weights.specs.Product.{walled}
 use Rattle.weights.specs.Prolongation.{isAlong}
-use Rattle.weights.specs.TwoLevels.{gridWith, onGrid, twoAt}
-use Rattle.weights.proofs.ProductLaws.{barred, fixed-parts}
+use Rattle.weights.proofs.Equations.{isAlong-is, gridWith-is}
+use Rattle.weights.proofs.ProductLaws.{barred}
 use Rattle.operators.specs.Base.{liveAt}
 use Rattle.operators.specs.Columns.{row, number}
 use Rattle.operators.specs.Levels.{galerkinAt, gridAt, isOwn, isBloch, ladderOf, patternRow, spotOf}
 use Rattle.operators.specs.Numbered.{nameNo, picksOf, rowColumns, Right}
 use Rattle.operators.specs.Pattern.{role, Ladder, rel, SpotEdge, spotEdge, Row, Live}
 use Rattle.operators.specs.Relation.{Spot}
-use Rattle.operators.proofs.ColumnSorted.{In, Span, unique}
+use Rattle.numbers.proofs.MemberLaws.{In, Span, unique, contains-in, in-contains}
 use Rattle.operators.proofs.ColumnWhole.{cells, Column, row-only}
-use Rattle.operators.proofs.ForwardPattern.{axisNo, three, row-three, rel-three, liveOn, live-free, free-live, own-role, sound-of, sound-live, grid-limits}
-use Rattle.operators.proofs.GalerkinPattern.{edgeOf, positionOf, within, inside, row-spans, galerkin-low, galerkin-in}
-use Rattle.operators.proofs.ListedPlaces.{contains-in, in-contains}
+use Rattle.weights.proofs.TakenLaws.{fixed-places}
+use Rattle.operators.proofs.ForwardPattern.{axisNo, three, row-three, rel-three, liveOn, live-free, free-live, own-role, sound-of, sound-live, grid-limits, grid-x, grid-y, grid-z, within}
+use Rattle.operators.proofs.GalerkinPattern.{edgeOf, positionOf, inside, row-spans, galerkin-low, galerkin-in}
 use Rattle.operators.proofs.PatternTheorem.{row-fixed}
 use Rattle.operators.proofs.StencilRow.{placed}
 use Rattle.operators.proofs.RelationLaws.{and-both, both-and}
@@ -42,18 +43,16 @@ neither : (a b : Bool) → (a || b) ≡ false → (a ≡ false) × (b ≡ false)
 neither true b h = absurd (false≢true (sym h))
 neither false b h = (refl, h)
 
-module _ (l : Medium) (p : Position) where
+module _ (l : FullLattice) (p : Position) where
   -- fixed on axis d
   abbrev fixedOn : ℕ → ℕ → Bool
   fixedOn d m = barred (walled l d (isAlong p d)) m
 
   fixed-is : fixedAt l p ≡ fixedOn 0 (p .i) || (fixedOn 1 (p .j) || fixedOn 2 (p .k))
-  unfolding fixedAt onWall onGrid edgesOf twoAt
-  fixed-is = fixed-parts (twoAt l 0) (l .grid) p
+  fixed-is = fixed-places l p
 
   own-fixed : (d m : ℕ) → barred (walled l d (isOwn (role (p .component) d))) m ≡ fixedOn d m
-  unfolding isAlong
-  own-fixed d m = ap (λ (b : Bool). barred (walled l d b) m) (own-role (eqb d (p .component)))
+  own-fixed d m = ap (λ (b : Bool). barred (walled l d b) m) (own-role (eqb d (p .component)) ∙ sym (isAlong-is p d))
 
   axis-live : (L d m : ℕ) → m < cellsAt l d L → fixedOn d m ≡ false → liveOn l L d (role (p .component) d) m ≡ true
   axis-live L d m h e = both-and (lt-ltb m (cellsAt l d L) h) (free-live l d (role (p .component) d) m (own-fixed d m ∙ e))
@@ -65,14 +64,14 @@ module _ (l : Medium) (p : Position) where
 
   module _ (limits : Limits (l .grid)) (L : ℕ) (h : Inside (gridAt l L) p) where
     free-edge : fixedAt l p ≡ false → Live (three (ladderOf l)) (sound-of l limits) L (p .component) (spotOf p)
-    unfolding gridAt gridWith
     free-edge e =
+        let w = within l L p h in
         let a = neither (fixedOn 0 (p .i)) (fixedOn 1 (p .j) || fixedOn 2 (p .k)) (sym fixed-is ∙ e) in
         let b = neither (fixedOn 1 (p .j)) (fixedOn 2 (p .k)) (a .1) in
         record {
-          x = sound-live l limits L 0 (role (p .component) 0) (p .i) ∙ axis-live L 0 (p .i) (h .i-in) (a .0);
-          y = sound-live l limits L 1 (role (p .component) 1) (p .j) ∙ axis-live L 1 (p .j) (h .j-in) (b .0);
-          z = sound-live l limits L 2 (role (p .component) 2) (p .k) ∙ axis-live L 2 (p .k) (h .k-in) (b .1);
+          x = sound-live l limits L 0 (role (p .component) 0) (p .i) ∙ axis-live L 0 (p .i) (w .x) (a .0);
+          y = sound-live l limits L 1 (role (p .component) 1) (p .j) ∙ axis-live L 1 (p .j) (w .y) (b .0);
+          z = sound-live l limits L 2 (role (p .component) 2) (p .k) ∙ axis-live L 2 (p .k) (w .z) (b .1);
         }
 
     fixed-edge : fixedAt l p ≡ true → Live (three (ladderOf l)) (sound-of l limits) L (p .component) (spotOf p) → ⊥
@@ -102,18 +101,18 @@ right-three M L t right =
 -- ---- a row
 
 -- the number of an edge, in two ways
-number-index : (l : Medium) (L : ℕ) (q : Position)
+number-index : (l : FullLattice) (L : ℕ) (q : Position)
     → indexOf (gridAt l L) q ≡ number (cellsAt l 0 L) (cellsAt l 1 L) (q .component * cells (three (ladderOf l)) L) (q .k) (q .j) (q .i)
-unfolding number indexOf cellsOf gridAt gridWith
-number-index l L q = omega arith
+unfolding number gridAt
+number-index l L q = rw (indexOf-is, cellsOf-is, gridWith-is) (omega arith)
 
 -- the list has the columns that the levels touch from the edge at p, and rises
-pub record Rows (l : Medium) (L : ℕ) (p : Position) (columns : List ℕ) : Type 0 where
+pub record Rows (l : FullLattice) (L : ℕ) (p : Position) (columns : List ℕ) : Type 0 where
   pub spans : Span 0 (unknownsOf (gridAt l L)) columns
   pub low : (c : ℕ) → In c columns → c < unknownsOf (gridAt l L)
   pub touched : (q : Position) → Inside (gridAt l L) q → In (indexOf (gridAt l L) q) columns ↔ Row (ladderOf l) L (p .component) (q .component) (spotOf p) (spotOf q)
 
-module _ (l : Medium) (limits : Limits (l .grid)) (L : ℕ) (p : Position) (h : Inside (gridAt l L) p) (columns : List ℕ) (rows : Rows l L p columns) where
+module _ (l : FullLattice) (limits : Limits (l .grid)) (L : ℕ) (p : Position) (h : Inside (gridAt l L) p) (columns : List ℕ) (rows : Rows l L p columns) where
   abbrev M : Ladder
   M = three (ladderOf l)
 
@@ -179,10 +178,10 @@ module _ (l : Medium) (limits : Limits (l .grid)) (L : ℕ) (p : Position) (h : 
       )
 
 -- the row that rises and is touched is the one that is picked
-pub row-picked : (l : Medium) → Limits (l .grid) → (L : ℕ) (t : List ℕ) → Right (ladderOf l) L t → (r : ℕ) → r < unknownsOf (gridAt l L)
+pub row-picked : (l : FullLattice) → Limits (l .grid) → (L : ℕ) (t : List ℕ) → Right (ladderOf l) L t → (r : ℕ) → r < unknownsOf (gridAt l L)
     → (columns : List ℕ) → Rows l L (atOf (gridAt l L) r) columns → columns ≡ patternRow l (gridAt l L) t r
-unfolding patternRow rowColumns gridAt gridWith
-row-picked l limits L t right r h columns rows = go (fixedAt l p) refl
+unfolding patternRow rowColumns
+row-picked l limits L t right r h columns rows = go (fixedAt l p) refl ∙ cells
   where
     p : Position
     p = atOf (gridAt l L) r
@@ -190,16 +189,20 @@ row-picked l limits L t right r h columns rows = go (fixedAt l p) refl
     k : Inside (gridAt l L) p
     k = at-inside (grid-limits l limits L) r h
 
-    go : (b : Bool) → fixedAt l p ≡ b
-        → columns
-        ≡ cond b (r ∷ [])
-        (row (picksOf t (p .component) 0 (p .i) (p .j) (p .k)) (picksOf t (p .component) 1 (p .i) (p .j) (p .k))
-        (picksOf t (p .component) 2 (p .i) (p .j) (p .k)) (cellsAt l 0 L) (cellsAt l 1 L) (cellsAt l 2 L))
+    -- those that are picked, among nx, ny and nz cells
+    scanned : ℕ → ℕ → ℕ → List ℕ
+    scanned = row (picksOf t (p .component) 0 (p .i) (p .j) (p .k)) (picksOf t (p .component) 1 (p .i) (p .j) (p .k)) (picksOf t (p .component) 2 (p .i) (p .j) (p .k))
+
+    cells : cond (fixedAt l p) (r ∷ []) (scanned (cellsAt l 0 L) (cellsAt l 1 L) (cellsAt l 2 L))
+        ≡ cond (fixedAt l p) (r ∷ []) (scanned (gridAt l L .nx) (gridAt l L .ny) (gridAt l L .nz))
+    cells = λ i. cond (fixedAt l p) (r ∷ []) (scanned (sym (grid-x l L) i) (sym (grid-y l L) i) (sym (grid-z l L) i))
+
+    go : (b : Bool) → fixedAt l p ≡ b → columns ≡ cond b (r ∷ []) (scanned (cellsAt l 0 L) (cellsAt l 1 L) (cellsAt l 2 L))
     go true e = fixed-row l limits L p k columns rows e ∙ ap (λ (m : ℕ). m ∷ []) (index-at (grid-limits l limits L) r h)
     go false e = free-row l limits L p k columns rows t right e
 
 -- Galerkin's rows
-pub galerkin-columns : (l : Medium) → Limits (l .grid) → (f : ℕ → C64) (L : ℕ) (t : List ℕ) → Right (ladderOf l) L t
+pub galerkin-columns : (l : FullLattice) → Limits (l .grid) → (f : ℕ → C64) (L : ℕ) (t : List ℕ) → Right (ladderOf l) L t
     → (r : ℕ) → r < unknownsOf (gridAt l L) → columnsOf (galerkinAt l f L r) ≡ patternRow l (gridAt l L) t r
 galerkin-columns l limits f L t right r h =
     let g = gridAt l L in

@@ -1,11 +1,11 @@
 -- Galerkin's operator in lists: a row's sums, rows laid one behind another, and an operator that stands in the same lists before them.
 -- Assumes nothing.
-use Prim.Native.Nat.{ℕ, zero, suc, _+_, _-_, _*_, _<_, _≤_, _^_}
+use Prim.Native.Nat.{ℕ, suc, _+_, _-_, _*_, _<_, _≤_, _^_}
 use native.Mathlib.Decide.{ℕ-discrete}
 use native.Mathlib.Numerals.{add-one}
 use native.Mathlib.Omega.{arith}
-use mathlib.Core.Logic.{inl, inr}
-use mathlib.Core.Path.{_≡_, refl, sym, ap, _∙_}
+use mathlib.Core.Logic.{_≢_, inl, inr}
+use mathlib.Core.Path.{_≡_, refl, sym, ap, _∙_, subst}
 use mathlib.Core.Bool.{Bool, true, false, cond}
 use mathlib.Core.List.{List, [], _∷_, _++_}
 use borrow.Author.Tests.{eq-eqb, ne-eqb}
@@ -16,41 +16,26 @@ use lib.Ieee.{Float}
 use Rattle.numbers.specs.declared.C64.{C64}
 use Rattle.numbers.specs.Complex.{zeroF, oneNumber, zeroNumber, noNumber}
 use Rattle.numbers.specs.Places.{places, numberAt, setNumber}
-use Rattle.numbers.proofs.Laws.{length-setNumber, number-same}
-use Rattle.lattice.specs.Lattice.{tabulate}
-use Rattle.lattice.specs.Terms.{Term, columnsOf, each, termsIn}
-use Rattle.lattice.proofs.TabulateLaws.{length-tabulate, tabulate-at}
-use Rattle.lattice.proofs.TermLaws.{length-in}
-use Rattle.weights.specs.Lists.{rows, laidBy, laidNumbers, allFinite}
-use Rattle.weights.specs.Transfer.{contains, numbersOf, startOf, storedRow, Stored}
-use Rattle.weights.proofs.EachLaws.{length-columns, length-numbers}
-use Rattle.weights.proofs.ListLaws.{laid-behind-laid, laid-numbers-length, laid-numbers-before, read-back, rows-length, rows-room, start-agree}
-use Rattle.weights.proofs.TransferLaws.{row-of}
-use Rattle.weights.proofs.Tutorial.{start-columns, start-numbers}
-use Rattle.operators.specs.declared.galerkin.Part.{Part}
-use Rattle.operators.specs.Collect.{inserted, collected, atFirst, summedAt}
-use Rattle.operators.specs.Galerkin.{
-  galerkinTerms,
-  withDiagonal,
-  galerkinRow,
-  galerkinColumns,
-  galerkinNumbers,
-  fineRowsRead,
-  Gathered,
-  Cleared,
-  sumOf,
-  sumsAt,
-  ColumnsBelow,
-  diagonalOne,
-  rowsIn,
-  Columned,
-  Met,
-  MetAll,
-}
-use Rattle.operators.proofs.ColumnSorted.{In}
-use Rattle.operators.proofs.ListedPlaces.{contains-in, in-contains}
-use Rattle.operators.proofs.RowMembers.{via-terms}
-use Rattle.operators.proofs.CollectSums.{in-at, number-at, sum-columns}
+use Rattle.numbers.specs.Lists.{tabulate, rows, laidNumbers, allFinite, contains, startOf}
+use Rattle.numbers.specs.Terms.{Term, columnsOf, numbersOf, Stored}
+use Rattle.numbers.specs.Collect.{atFirst, fromZero, summedAt}
+use Rattle.numbers.proofs.Equations.{each-nil, collected-nil, columnsOf-nil, columnsOf-cons, numbersOf-nil, numbersOf-cons, contains-nil, inserted-nil, atFirst-is, tabulate-zero, tabulate-suc, rows-zero, rows-suc, laidBy-nil, startOf-is}
+use Rattle.numbers.proofs.Laws.{length-setNumber, number-same, number-other}
+use Rattle.numbers.proofs.TabulateLaws.{length-tabulate, tabulate-at}
+use Rattle.numbers.proofs.EachLaws.{length-columns, length-numbers}
+use Rattle.numbers.proofs.ListLaws.{laid-behind-laid, laid-numbers-length, read-back, start-agree}
+use Rattle.numbers.proofs.MemberLaws.{In, contains-in, in-contains}
+use Rattle.numbers.proofs.CollectSums.{in-at, number-at, sum-columns}
+use Rattle.numbers.proofs.Tutorial.{start-columns, start-numbers}
+use Rattle.lattice.specs.Lattice.{FullLattice}
+use Rattle.numbers.specs.declared.terms.Part.{Part}
+use Rattle.operators.specs.declared.galerkin.FineRows.{FineRows}
+use Rattle.operators.specs.declared.galerkin.FineRows.the-variants.{Computed, Stored as StoredFrom}
+use Rattle.operators.specs.Galerkin.{fineTerms, galerkinTerms, withDiagonal, galerkinRow, galerkinColumns, galerkinNumbers, fineRowsRead, rowsIn, fineRow, FineReady, FineBefore, noSums, Gathered, Cleared, sumOf, sumsAt, ColumnsBelow, diagonalOne, Columned, Met, MetAll, RowReady, rowLaid, RowsReady, NumbersLaid}
+use Rattle.numbers.proofs.StoredLaws.{summed-none, places-of, zeros-at, zeros-are, start-room, place-of, stored-size, stored-low, stored-kept, stored-laid}
+use Rattle.numbers.proofs.LoopLaws.{start-suc}
+use Rattle.operators.proofs.ComputedLaws.{row-computed, row-stored}
+use Rattle.operators.proofs.RowMembers.{terms-via, via-terms, via-row}
 use Rattle.operators.proofs.SecondCondition.{second-condition, touched, galerkin-local}
 
 -- ---- a row by place
@@ -83,8 +68,18 @@ module _ (A P R : ℕ → List Term) (c : ℕ) where
 
   -- with an empty turned row it is 1 on the diagonal alone
   row-alone : R c ≡ [] → galerkinRow A P R c ≡ record { column = c; number = oneNumber } ∷ []
-  unfolding galerkinRow galerkinTerms each collected withDiagonal columnsOf contains inserted atFirst
-  row-alone e = rw e
+  unfolding galerkinRow galerkinTerms withDiagonal
+  row-alone e =
+      rw (
+        e,
+        each-nil (fineTerms A P),
+        collected-nil fromZero [],
+        columnsOf-nil,
+        contains-nil c,
+        inserted-nil atFirst (record { column = c; number = oneNumber }),
+        atFirst-is oneNumber,
+      )
+      refl
 
 empty-is : {A : Type 0} (xs : List A) → length xs ≡ 0 → xs ≡ []
 empty-is [] h = refl
@@ -103,14 +98,12 @@ pub record Standing (row cs : List ℕ) (k n : ℕ) : Type 0 where
 -- where row c ends
 columned-end : {row : ℕ → List ℕ} {m : ℕ} {o : Part} {starts cs : List ℕ} → Columned row m o starts cs → (c : ℕ) → c < m
     → getD starts (o .s + c + 1) 0 ≡ startOf row c + length (row c)
-unfolding startOf
 columned-end {row} {m} {o} {starts} {cs} u c h =
     let j : o .s + c + 1 ≡ o .s + suc c = omega arith in
-    ap (λ (i : ℕ). getD starts i 0) j ∙ (u .starts-are (suc c) (omega arith) ∙ rows-length row c)
+    ap (λ (i : ℕ). getD starts i 0) j ∙ (u .starts-are (suc c) (omega arith) ∙ start-suc row c)
 
 pub columned-row : {row : ℕ → List ℕ} {m : ℕ} {o : Part} {starts cs : List ℕ} {c k n : ℕ} → Columned row m o starts cs → c < m
     → k ≡ o .k + getD starts (o .s + c) 0 → n ≡ getD starts (o .s + c + 1) 0 - getD starts (o .s + c) 0 → Standing (row c) cs k n
-unfolding startOf
 columned-row {row} {m} {o} {starts} {cs} {c} {k} {n} u h e d =
     let p : k ≡ o .k + startOf row c = omega (arith, u .starts-are c (omega arith)) in
     let w : n ≡ length (row c) = omega (arith, u .starts-are c (omega arith), columned-end u c h) in
@@ -118,8 +111,8 @@ columned-row {row} {m} {o} {starts} {cs} {c} {k} {n} u h e d =
       count = w;
       are = λ q i. rw p (u .columns-are c q h (omega arith));
       low = λ q i. u .columns-low c q h (omega arith);
-      room = omega (arith, rows-room row m c h, u .columns-room);
-      few = omega (arith, rows-room row m c h, u .all-few, u .low);
+      room = omega (arith, start-room row m c h, u .columns-room);
+      few = omega (arith, start-room row m c h, u .all-few, u .low);
     }
 
 pub standing-below : {row cs : List ℕ} {k n : ℕ} → Standing row cs k n → ColumnsBelow cs k n 12288
@@ -134,14 +127,13 @@ pub record Bounds (starts : List ℕ) (o : Part) (c : ℕ) : Type 0 where
   pub starts-low : o .s ≤ 2 ^ 32
   pub places-low : o .k ≤ 2 ^ 32
 
-pub columned-bounds : {row : ℕ → List ℕ} {m : ℕ} {o : Part} {starts cs : List ℕ} {c : ℕ} → Columned row m o starts cs → c < m → m ≤ 12288 → Bounds starts o c
-unfolding startOf
+pub columned-bounds : {row : ℕ → List ℕ} {m : ℕ} {o : Part} {starts cs : List ℕ} {c : ℕ} → Columned row m o starts cs → c < m → c < 12288 → Bounds starts o c
 columned-bounds {row} {m} {o} {starts} {cs} {c} u h l =
     record {
       there = omega (arith, u .starts-room);
       rise = omega (arith, u .starts-are c (omega arith), columned-end u c h);
-      low = omega (arith, u .starts-are c (omega arith), rows-room row m c h, u .all-few);
-      few = omega arith;
+      low = omega (arith, u .starts-are c (omega arith), start-room row m c h, u .all-few);
+      few = l;
       starts-low = u .starts-low;
       places-low = u .low;
     }
@@ -154,6 +146,14 @@ one-long starts s c xs = go (eqb (getD starts (s + c) 0) (getD starts (s + c + 1
   where
     go : (b : Bool) → length (cond b (setNumber xs c oneNumber) xs) ≡ length xs
     go true = length-setNumber xs c oneNumber
+    go false = refl
+
+one-other : (starts : List ℕ) (s c : ℕ) (xs : List Float) (d : ℕ) → d ≢ c → numberAt (diagonalOne starts s c xs) d ≡ numberAt xs d
+unfolding diagonalOne
+one-other starts s c xs d h = go (eqb (getD starts (s + c) 0) (getD starts (s + c + 1) 0))
+  where
+    go : (b : Bool) → numberAt (cond b (setNumber xs c oneNumber) xs) d ≡ numberAt xs d
+    go true = number-other xs c d oneNumber h
     go false = refl
 
 -- where turned row c is empty, and where not
@@ -176,116 +176,120 @@ sums-are cs xs k n vs e h =
     (λ q b. let i : q < n = omega arith in tabulate-at (sumOf cs xs) n k q noNumber i ∙ h q i)
 
 sums-one : (cs : List ℕ) (xs : List Float) (k : ℕ) {v : C64} → numberAt xs (getD cs (k + 0) 0) ≡ v → sumsAt cs xs k 1 ≡ v ∷ []
-unfolding sumsAt sumOf tabulate
-sums-one cs xs k {v} e = let p : k ≡ k + 0 = omega arith in λ i. (ap (λ (j : ℕ). numberAt xs (getD cs j 0)) p ∙ e) i ∷ []
+unfolding sumsAt sumOf
+sums-one cs xs k {v} e =
+    let p : k ≡ k + 0 = omega arith in
+    rw (tabulate-suc (sumOf cs xs) 0 k, tabulate-zero (sumOf cs xs) (suc k)) (λ i. (ap (λ (j : ℕ). numberAt xs (getD cs j 0)) p ∙ e) i ∷ [])
 
-module _ {A P R : ℕ → List Term} {c : ℕ} {cs : List ℕ} (starts : List ℕ) (s : ℕ) {k n : ℕ} {xs ys zs ws : List Float} (met : Met A P R c)
-    (there : Standing (galerkinColumns A P R c) cs k n) (cleared : Cleared cs k n xs ys) (gathered : Gathered (galerkinTerms A P (R c)) ys zs)
-    (one : ws ≡ diagonalOne starts s c zs)
-    (size : length (R c) ≡ getD starts (s + c + 1) 0 - getD starts (s + c) 0) (rise : getD starts (s + c) 0 ≤ getD starts (s + c + 1) 0)
-    (long : length xs ≡ 24576) where
-  pub sums-long : length ws ≡ 24576
-  sums-long = ap length one ∙ (one-long starts s c zs ∙ (gathered .long ∙ (cleared .long ∙ long)))
+-- the sums of no terms are +0
+pub none-long : length noSums ≡ 24576
+unfolding noSums
+none-long = length-replicate {A = Float} 24576 zeroF
+
+none-zero : (d : ℕ) → d < 12288 → numberAt noSums d ≡ zeroNumber
+unfolding noSums
+none-zero d h = zeros-at 12288 24576 refl d h
+
+none-is : (xs : List Float) → length xs ≡ 24576 → ((d : ℕ) → d < 12288 → numberAt xs d ≡ zeroNumber) → xs ≡ noSums
+unfolding noSums
+none-is xs l h = zeros-are 12288 24576 refl xs l h
+
+module _ {A P R : ℕ → List Term} {c : ℕ} {cs : List ℕ} (starts : List ℕ) (s : ℕ) {k n : ℕ} {xs ys zs : List Float} (met : Met A P R c)
+    (there : Standing (galerkinColumns A P R c) cs k n) (none : xs ≡ noSums) (gathered : Gathered (galerkinTerms A P (R c)) xs ys)
+    (one : zs ≡ diagonalOne starts s c ys)
+    (size : length (R c) ≡ getD starts (s + c + 1) 0 - getD starts (s + c) 0) (rise : getD starts (s + c) 0 ≤ getD starts (s + c + 1) 0) where
+  gathered-long : length ys ≡ 24576
+  gathered-long = gathered .long ∙ (ap length none ∙ none-long)
+
+  sums-long : length zs ≡ 24576
+  sums-long = ap length one ∙ (one-long starts s c ys ∙ gathered-long)
+
+  -- at each column the sum of the terms there
+  gathered-sum : (d : ℕ) → d < 12288 → numberAt ys d ≡ summedAt d zeroNumber (galerkinTerms A P (R c))
+  gathered-sum d h =
+      let z : numberAt xs d ≡ zeroNumber = ap (λ (vs : List Float). numberAt vs d) none ∙ none-zero d h in
+      let p : places xs ≡ 12288 = places-of xs 12288 (ap length none ∙ none-long) in
+      gathered .sums d (omega arith) ∙ ap (λ (v : C64). summedAt d v (galerkinTerms A P (R c))) z
 
   -- with an empty turned row
-  alone-sums : R c ≡ [] → getD starts (s + c) 0 ≡ getD starts (s + c + 1) 0 → sumsAt cs ws k n ≡ numbersOf (galerkinRow A P R c)
-  unfolding numbersOf columnsOf galerkinColumns diagonalOne places
+  alone-sums : R c ≡ [] → getD starts (s + c) 0 ≡ getD starts (s + c + 1) 0 → sumsAt cs zs k n ≡ numbersOf (galerkinRow A P R c)
+  unfolding galerkinColumns diagonalOne
   alone-sums e d =
-      let f : galerkinRow A P R c ≡ record { column = c; number = oneNumber } ∷ [] = row-alone A P R c e in
-      let l : n ≡ 1 = there .count ∙ ap (λ (us : List Term). length (columnsOf us)) f in
-      let g : getD (columnsOf (galerkinRow A P R c)) 0 0 ≡ c = ap (λ (us : List Term). getD (columnsOf us) 0 0) f in
+      let t : Term = record { column = c; number = oneNumber } in
+      let f : galerkinRow A P R c ≡ t ∷ [] = row-alone A P R c e in
+      let j : columnsOf (galerkinRow A P R c) ≡ c ∷ [] = ap columnsOf f ∙ (columnsOf-cons t [] ∙ ap (λ (l : List ℕ). c ∷ l) columnsOf-nil) in
+      let v : numbersOf (galerkinRow A P R c) ≡ oneNumber ∷ [] = ap numbersOf f ∙ (numbersOf-cons t [] ∙ ap (λ (l : List C64). oneNumber ∷ l) numbersOf-nil) in
+      let l : n ≡ 1 = there .count ∙ ap length j in
+      let g : getD (columnsOf (galerkinRow A P R c)) 0 0 ≡ c = ap (λ (us : List ℕ). getD us 0 0) j in
       let i : c < 12288 = omega (arith, there .low 0 (omega arith)) in
       let h : getD cs (k + 0) 0 ≡ c = there .are 0 (omega arith) ∙ g in
-      let w : ws ≡ setNumber zs c oneNumber = rw (eq-eqb (getD starts (s + c) 0) (getD starts (s + c + 1) 0) d) at one in
-      let v : numberAt ws c ≡ oneNumber = rw w (number-same zs c oneNumber (omega (arith, gathered .long, cleared .long))) in
-      rw (l, f) (sums-one cs ws k (ap (numberAt ws) h ∙ v))
+      let w : zs ≡ setNumber ys c oneNumber = rw (eq-eqb (getD starts (s + c) 0) (getD starts (s + c + 1) 0) d) at one in
+      let b : numberAt zs c ≡ oneNumber = rw w (number-same ys c oneNumber (omega (arith, places-of ys 12288 gathered-long))) in
+      rw (l, v) (sums-one cs zs k (ap (numberAt zs) h ∙ b))
 
   -- and with one that is not
-  met-sums : 0 < length (R c) → sumsAt cs zs k n ≡ numbersOf (galerkinRow A P R c)
-  unfolding galerkinColumns places
+  met-sums : 0 < length (R c) → sumsAt cs ys k n ≡ numbersOf (galerkinRow A P R c)
+  unfolding galerkinColumns
   met-sums h =
-      sums-are cs zs k n (numbersOf (galerkinRow A P R c)) (there .count ∙ (length-columns (galerkinRow A P R c) ∙ sym (length-numbers (galerkinRow A P R c)))) at
+      sums-are cs ys k n (numbersOf (galerkinRow A P R c)) (there .count ∙ (length-columns (galerkinRow A P R c) ∙ sym (length-numbers (galerkinRow A P R c)))) at
     where
-      at : (q : ℕ) → q < n → numberAt zs (getD cs (k + q) 0) ≡ getD (numbersOf (galerkinRow A P R c)) q noNumber
+      at : (q : ℕ) → q < n → numberAt ys (getD cs (k + q) 0) ≡ getD (numbersOf (galerkinRow A P R c)) q noNumber
       at q b =
           let d : ℕ = getD cs (k + q) 0 in
           let e : d ≡ getD (columnsOf (galerkinRow A P R c)) q 0 = there .are q b in
-          let i : d < 12288 = omega (arith, there .low q b) in
-          let z : numberAt ys d ≡ zeroNumber = cleared .zeros q b (omega arith) in
-          let ts : List Term = galerkinTerms A P (R c) in
           let l : q < length (galerkinRow A P R c) = omega (arith, there .count, length-columns (galerkinRow A P R c)) in
-          gathered .sums d (omega (arith, cleared .long))
-          ∙ ((λ j. summedAt (e j) (z j) ts) ∙ sym (row-number A P R c met h q l))
+          gathered-sum d (omega (arith, there .low q b))
+          ∙ (ap (λ (i : ℕ). summedAt i zeroNumber (galerkinTerms A P (R c))) e ∙ sym (row-number A P R c met h q l))
 
-  pub row-sums : sumsAt cs ws k n ≡ galerkinNumbers A P R c
+  row-sums : sumsAt cs zs k n ≡ galerkinNumbers A P R c
   unfolding galerkinNumbers diagonalOne
   row-sums = go (ℕ-discrete (getD starts (s + c) 0) (getD starts (s + c + 1) 0))
     where
-      go : Dec (getD starts (s + c) 0 ≡ getD starts (s + c + 1) 0) → sumsAt cs ws k n ≡ numbersOf (galerkinRow A P R c)
+      go : Dec (getD starts (s + c) 0 ≡ getD starts (s + c + 1) 0) → sumsAt cs zs k n ≡ numbersOf (galerkinRow A P R c)
       go (yes d) = alone-sums (empty-is (R c) (omega arith)) d
       go (no d) =
-          let w : ws ≡ zs = rw (ne-eqb (getD starts (s + c) 0) (getD starts (s + c + 1) 0) d) at one in
+          let w : zs ≡ ys = rw (ne-eqb (getD starts (s + c) 0) (getD starts (s + c + 1) 0) d) at one in
           rw w (met-sums (omega arith))
 
--- ---- rows that stand in lists
+  -- ---- sums that were cleared again
 
-pub stored-size : (starts : List ℕ) (s : ℕ) (cs : List ℕ) (xs : List Float) (k r : ℕ)
-    → length (storedRow starts s cs xs k r) ≡ getD starts (s + r + 1) 0 - getD starts (s + r) 0
-unfolding storedRow
-stored-size starts s cs xs k r = length-in cs xs (k + getD starts (s + r) 0) (getD starts (s + r + 1) 0 - getD starts (s + r) 0)
+  module _ {ws : List Float} (cleared : Cleared cs k n zs ws) where
+    -- at one of the row's columns
+    zero-in : (d : ℕ) → d < 12288 → In d (galerkinColumns A P R c) → numberAt ws d ≡ zeroNumber
+    zero-in d h i =
+        let p = place-of d (galerkinColumns A P R c) i in
+        let b : p .place < n = omega (arith, there .count, p .low) in
+        let e : getD cs (k + p .place) 0 ≡ d = there .are (p .place) b ∙ p .is in
+        let w : places zs ≡ 12288 = places-of zs 12288 sums-long in
+        ap (numberAt ws) (sym e) ∙ cleared .zeros (p .place) b (omega arith)
 
--- columns below m
-low-in : (cs : List ℕ) (xs : List Float) (k n m : ℕ) → ((j : ℕ) → k ≤ j → j < k + n → getD cs j 0 < m) → (d : ℕ) → In d (columnsOf (termsIn cs xs k n)) → d < m
-unfolding termsIn columnsOf
-low-in cs xs k (suc n) m h d (inl e) = omega (arith, h k (omega arith) (omega arith))
-low-in cs xs k (suc n) m h d (inr i) = low-in cs xs (suc k) n m (λ j a b. h j (omega arith) (omega arith)) d i
+    -- elsewhere: no term has touched it
+    zero-out : (d : ℕ) → d < 12288 → (In d (galerkinColumns A P R c) → ⊥) → numberAt ws d ≡ zeroNumber
+    unfolding galerkinColumns
+    zero-out d h out =
+        let apart : (m : ℕ) → m < n → d ≢ getD cs (k + m) 0 =
+        λ m b e. out (subst (λ (i : ℕ). In i (columnsOf (galerkinRow A P R c))) (sym (e ∙ there .are m b)) (in-at (columnsOf (galerkinRow A P R c)) m (omega (arith, there .count)))) in
+        let own : d ≢ c = λ e. out (via-row A P R c d (inl e)) in
+        cleared .kept d apart
+        ∙ (ap (λ (vs : List Float). numberAt vs d) one
+        ∙ (one-other starts s c ys d own
+        ∙ (gathered-sum d h ∙ summed-none d zeroNumber (galerkinTerms A P (R c)) (unnamed d out))))
+      where
+        unnamed : (d : ℕ) → (In d (columnsOf (galerkinRow A P R c)) → ⊥) → contains d (columnsOf (galerkinTerms A P (R c))) ≡ false
+        unnamed d out = go (contains d (columnsOf (galerkinTerms A P (R c)))) refl
+          where
+            go : (b : Bool) → contains d (columnsOf (galerkinTerms A P (R c))) ≡ b → b ≡ false
+            go true e = absurd (out (via-row A P R c d (inr (terms-via A P (R c) d (contains-in d (columnsOf (galerkinTerms A P (R c))) e)))))
+            go false e = refl
 
-terms-agree : (cs : List ℕ) (xs ys : List Float) (k n : ℕ) → ((j : ℕ) → j < k + n → numberAt xs j ≡ numberAt ys j) → termsIn cs xs k n ≡ termsIn cs ys k n
-unfolding termsIn
-terms-agree cs xs ys k zero h = refl
-terms-agree cs xs ys k (suc n) h =
-    let p : numberAt xs k ≡ numberAt ys k = h k (omega arith) in
-    let q : termsIn cs xs (suc k) n ≡ termsIn cs ys (suc k) n = terms-agree cs xs ys (suc k) n (λ j b. h j (omega arith)) in
-    λ i. record { column = getD cs k 0; number = p i } ∷ q i
-
-module _ {starts : List ℕ} {s : ℕ} {cs : List ℕ} {xs : List Float} {k n m : ℕ} (u : Stored starts s cs xs k n m) where
-  pub stored-most : (r : ℕ) → r < n → getD starts (s + r + 1) 0 ≤ getD starts (s + n) 0
-  stored-most r h = row-of u r h .most
-
-  -- a row's columns are below m
-  stored-low : (r : ℕ) → r < n → (d : ℕ) → In d (columnsOf (storedRow starts s cs xs k r)) → d < m
-  unfolding storedRow
-  stored-low r h =
-      low-in cs xs (k + getD starts (s + r) 0) (getD starts (s + r + 1) 0 - getD starts (s + r) 0) m
-      (λ j a b.
-      let e : k + (j - k) ≡ j = omega arith in
-      let w : getD cs (k + (j - k)) 0 < m = u .columns-low (j - k) (omega (arith, stored-most r h, u .rise r h)) in
-      rw e at w)
-
-  -- numbers that are laid behind the rows leave them as they are
-  stored-kept : (o : ℕ) (vs : List C64) → k + getD starts (s + n) 0 ≤ o → (r : ℕ) → r < n
-      → storedRow starts s cs (laidNumbers xs o vs) k r ≡ storedRow starts s cs xs k r
-  unfolding storedRow
-  stored-kept o vs h r b =
-      terms-agree cs (laidNumbers xs o vs) xs (k + getD starts (s + r) 0) (getD starts (s + r + 1) 0 - getD starts (s + r) 0)
-      (λ j i. laid-numbers-before xs o vs j (omega (arith, stored-most r b, u .rise r b)))
-
-  -- and they still stand in the lists
-  stored-laid : (o : ℕ) (vs : List C64) → Stored starts s cs (laidNumbers xs o vs) k n m
-  stored-laid o vs =
-      record {
-        first = u .first;
-        rise = u .rise;
-        starts-room = u .starts-room;
-        columns-room = u .columns-room;
-        numbers-room = omega (arith, laid-numbers-length xs o vs, u .numbers-room);
-        columns-low = u .columns-low;
-        rows-few = u .rows-few;
-        columns-few = u .columns-few;
-        all-few = u .all-few;
-        starts-low = u .starts-low;
-        low = u .low;
-      }
+    sums-none : ws ≡ noSums
+    sums-none = none-is ws (cleared .long ∙ sums-long) (λ d h. go d h (contains d (galerkinColumns A P R c)) refl)
+      where
+        go : (d : ℕ) → d < 12288 → (b : Bool) → contains d (galerkinColumns A P R c) ≡ b → numberAt ws d ≡ zeroNumber
+        go d h true e = zero-in d h (contains-in d (galerkinColumns A P R c) e)
+        go d h false e =
+            zero-out d h
+            (λ i. let f : true ≡ false = sym (in-contains d (galerkinColumns A P R c) i) ∙ e in let z : _≡_ {A = ℕ} 0 1 = cc in omega arith)
 
 -- room for the starts of row c
 pub diagonal-room : {starts : List ℕ} {s : ℕ} {cs : List ℕ} {xs : List Float} {k m n c : ℕ} → Stored starts s cs xs k m n → c < m
@@ -299,30 +303,33 @@ pub record Worked (A P R : ℕ → List Term) (c : ℕ) (o : Part) (cs : List �
   pub long : length sums ≡ 24576
   pub place : k ≡ o .k + startOf (galerkinColumns A P R) c
   pub numbers : sumsAt cs sums k n ≡ galerkinNumbers A P R c
+  pub cleared : (sums′ : List Float) → Cleared cs k n sums sums′ → sums′ ≡ noSums
 
--- sums that were cleared, gathered, and the diagonal set
-pub row-worked : {A P : ℕ → List Term} (t : Part) {o : Part} {tstarts tcs ostarts ocs : List ℕ} {txs : List Float} {m w c k n : ℕ} {xs ys zs ws : List Float}
+-- sums that were gathered, and the diagonal set
+pub row-worked : {A P : ℕ → List Term} (t : Part) {o : Part} {tstarts tcs ostarts ocs : List ℕ} {txs : List Float} {m w c k n : ℕ} {xs ys zs : List Float}
     → Stored tstarts (t .s) tcs txs (t .k) m w
-    → Columned (galerkinColumns A P (rowsIn t tstarts tcs txs)) m o ostarts ocs
-    → Met A P (rowsIn t tstarts tcs txs) c
-    → (c < m) × (length xs ≡ 24576)
+    → c < m
+    → RowReady A P (rowsIn t tstarts tcs txs) c o ostarts ocs
     → k ≡ o .k + getD ostarts (o .s + c) 0
     → n ≡ getD ostarts (o .s + c + 1) 0 - getD ostarts (o .s + c) 0
-    → Cleared ocs k n xs ys
-    → Gathered (galerkinTerms A P (rowsIn t tstarts tcs txs c)) ys zs
-    → ws ≡ diagonalOne tstarts (t .s) c zs
-    → Worked A P (rowsIn t tstarts tcs txs) c o ocs k n ws
-row-worked {A} {P} t {o} {tstarts} {tcs} {ostarts} {ocs} {txs} {c = c} turned columned met low from count cleared gathered one =
-    let there = columned-row columned (low .0) from count in
+    → xs ≡ noSums
+    → Gathered (galerkinTerms A P (rowsIn t tstarts tcs txs c)) xs ys
+    → zs ≡ diagonalOne tstarts (t .s) c ys
+    → Worked A P (rowsIn t tstarts tcs txs) c o ocs k n zs
+row-worked {A} {P} t {o} {tstarts} {tcs} {ostarts} {ocs} {txs} {c = c} turned low ready from count none gathered one =
+    let there = columned-row (ready .columned) (ready .low) from count in
     let size : length (rowsIn t tstarts tcs txs c) ≡ getD tstarts (t .s + c + 1) 0 - getD tstarts (t .s + c) 0 = stored-size tstarts (t .s) tcs txs (t .k) c in
+    let rise = turned .rise c low in
     record {
-      long = sums-long tstarts (t .s) met there cleared gathered one size (turned .rise c (low .0)) (low .1);
-      place = omega (arith, columned .starts-are c (omega (arith, low .0)));
-      numbers = row-sums tstarts (t .s) met there cleared gathered one size (turned .rise c (low .0)) (low .1);
+      long = sums-long tstarts (t .s) (ready .met) there none gathered one size rise;
+      place = omega (arith, ready .columned .starts-are c (omega (arith, ready .low)));
+      numbers = row-sums tstarts (t .s) (ready .met) there none gathered one size rise;
+      cleared = λ ws w. sums-none tstarts (t .s) (ready .met) there none gathered one size rise w;
     }
 
 pub worked-laid : {A P R : ℕ → List Term} {c : ℕ} {o : Part} {cs : List ℕ} {k n : ℕ} {sums : List Float} (vs : List Float) {vs′ : List Float}
-    → Worked A P R c o cs k n sums → vs′ ≡ laidNumbers vs k (sumsAt cs sums k n) → vs′ ≡ laidNumbers vs (o .k + startOf (galerkinColumns A P R) c) (galerkinNumbers A P R c)
+    → Worked A P R c o cs k n sums → vs′ ≡ laidNumbers vs k (sumsAt cs sums k n) → vs′ ≡ rowLaid A P R c o vs
+unfolding rowLaid
 worked-laid vs w e = e ∙ (λ i. laidNumbers vs (w .place i) (w .numbers i))
 
 -- ---- rows laid one behind another, c of m done
@@ -330,15 +337,12 @@ worked-laid vs w e = e ∙ (λ i. laidNumbers vs (w .place i) (w .numbers i))
 pub record RowsLaid (f : ℕ → List C64) (m k : ℕ) (xs₀ xs sums : List Float) (c : ℕ) : Type 0 where
   pub high : c ≤ m
   pub list : xs ≡ laidNumbers xs₀ k (rows f c)
-  pub long : length sums ≡ 24576
+  pub none : sums ≡ noSums
 
--- the sums at first
-pub zeros-long : length (replicate {A = Float} 24576 zeroF) ≡ 24576
-zeros-long = length-replicate {A = Float} 24576 zeroF
-
-pub rows-start : {f : ℕ → List C64} {m k : ℕ} {xs sums : List Float} → length sums ≡ 24576 → RowsLaid f m k xs xs sums 0
-unfolding rows laidBy
-rows-start l = record { high = omega arith; list = refl; long = l }
+-- the sums at first are +0
+pub rows-start : {f : ℕ → List C64} {m k : ℕ} {xs : List Float} → RowsLaid f m k xs xs (replicate {A = Float} 24576 zeroF) 0
+unfolding noSums
+rows-start {f} {m} {k} {xs} = record { high = omega arith; list = rw (rows-zero f, laidBy-nil setNumber xs k) refl; none = refl }
 
 pub rows-end : {f : ℕ → List C64} {m k c : ℕ} {xs₀ xs sums : List Float} → RowsLaid f m k xs₀ xs sums c → m ≤ c → xs ≡ laidNumbers xs₀ k (rows f m)
 rows-end {f} {m} {k} {c} {xs₀} {xs} {sums} u h = let e : c ≡ m = omega (arith, u .high) in u .list ∙ ap (λ (j : ℕ). laidNumbers xs₀ k (rows f j)) e
@@ -349,42 +353,43 @@ rows-same {f} {m} {k} {c} {xs₀} {xs} {sums} u = ap length (u .list) ∙ laid-n
 module _ (A P R : ℕ → List Term) where
   -- the rows' numbers begin where their columns do
   start-same : (c : ℕ) → startOf (galerkinColumns A P R) c ≡ length (rows (galerkinNumbers A P R) c)
-  unfolding startOf galerkinColumns galerkinNumbers
-  start-same c = start-columns (galerkinRow A P R) c ∙ sym (start-numbers (galerkinRow A P R) c)
+  unfolding galerkinColumns galerkinNumbers
+  start-same c = start-columns (galerkinRow A P R) c ∙ (sym (start-numbers (galerkinRow A P R) c) ∙ startOf-is (galerkinNumbers A P R) c)
 
-  pub rows-turn : {m k c : ℕ} {xs₀ xs xs′ sums sums′ : List Float} → RowsLaid (galerkinNumbers A P R) m k xs₀ xs sums c → c < m
-      → xs′ ≡ laidNumbers xs (k + startOf (galerkinColumns A P R) c) (galerkinNumbers A P R c) → length sums′ ≡ 24576
+  rows-turn : {m k c : ℕ} {xs₀ xs xs′ sums sums′ : List Float} → RowsLaid (galerkinNumbers A P R) m k xs₀ xs sums c → c < m
+      → xs′ ≡ laidNumbers xs (k + startOf (galerkinColumns A P R) c) (galerkinNumbers A P R c) → sums′ ≡ noSums
       → RowsLaid (galerkinNumbers A P R) m k xs₀ xs′ sums′ (c + 1)
-  unfolding rows
-  rows-turn {m} {k} {c} {xs₀} {xs} {xs′} u h e l =
+  rows-turn {m} {k} {c} {xs₀} {xs} {xs′} u h e z =
       let f : ℕ → List C64 = galerkinNumbers A P R in
       let j : ℕ = k + startOf (galerkinColumns A P R) c in
       let p : j ≡ k + length (rows f c) = omega (arith, start-same c) in
-      let q : rows f (c + 1) ≡ rows f c ++ f c = rw (add-one c) refl in
+      let q : rows f (c + 1) ≡ rows f c ++ f c = rw (add-one c) (rows-suc f c) in
       record {
         high = omega arith;
         list = e
             ∙ (ap (λ (ys : List Float). laidNumbers ys j (f c)) (u .list)
             ∙ (sym (laid-behind-laid setNumber xs₀ k (rows f c) (f c) j p) ∙ ap (laidNumbers xs₀ k) (sym q)));
-        long = l;
+        none = z;
       }
 
-  module _ {m : ℕ} {o : Part} {starts cs : List ℕ} (u : Columned (galerkinColumns A P R) m o starts cs) where
+  module _ {m : ℕ} {o : Part} {starts cs : List ℕ} {xs₀ : List Float} (ready : RowsReady A P R m o starts cs xs₀) where
     last-start : getD starts (o .s + m) 0 ≡ length (rows (galerkinNumbers A P R) m)
-    last-start = u .starts-are m (omega arith) ∙ start-same m
+    last-start = ready .columned .starts-are m (omega arith) ∙ start-same m
 
-    module _ {c : ℕ} {xs₀ xs sums : List Float} (w : RowsLaid (galerkinNumbers A P R) m (o .k) xs₀ xs sums c)
-        (room : 2 * (o .k + getD starts (o .s + m) 0) ≤ length xs₀) where
+    module _ {c : ℕ} {xs sums : List Float} (w : RowsLaid (galerkinNumbers A P R) m (o .k) xs₀ xs sums c) where
       pub finite-room : (o .k + getD starts (o .s + m) 0 < 2 ^ 40) × (2 * (o .k + getD starts (o .s + m) 0) ≤ length xs)
-      finite-room = (omega (arith, u .starts-are m (omega arith), u .all-few, u .low), omega (arith, rows-same w))
+      finite-room = (omega (arith, ready .columned .starts-are m (omega arith), ready .columned .all-few, ready .columned .low), omega (arith, ready .room, rows-same w))
 
-      pub rows-finite : m ≤ c → {b : Bool} → b ≡ allFinite (tabulate (numberAt xs) (getD starts (o .s + m) 0) (o .k)) → b ≡ allFinite (rows (galerkinNumbers A P R) m)
+      pub rows-finite : m ≤ c → {b : Bool} → b ≡ allFinite (tabulate (numberAt xs) (getD starts (o .s + m) 0) (o .k)) → NumbersLaid A P R m o xs₀ xs b
       rows-finite h d =
-          d
-          ∙ (λ i. allFinite (tabulate (numberAt (rows-end w h i)) (last-start i) (o .k)))
-          ∙ ap allFinite (read-back xs₀ (o .k) (rows (galerkinNumbers A P R) m) (omega (arith, last-start)))
+          record {
+            list = rows-end w h;
+            finite = d
+                ∙ (λ i. allFinite (tabulate (numberAt (rows-end w h i)) (last-start i) (o .k)))
+                ∙ ap allFinite (read-back xs₀ (o .k) (rows (galerkinNumbers A P R) m) (omega (arith, last-start, ready .room)));
+          }
 
--- ---- a fine operator that stands in the same lists, before the rows
+-- ---- fine rows that stand in the same lists, before the rows
 
 -- rows with the same columns
 pub columned-agree : {f g : ℕ → List ℕ} {m : ℕ} {o : Part} {starts cs : List ℕ} → ((c : ℕ) → c < m → f c ≡ g c) → Columned f m o starts cs → Columned g m o starts cs
@@ -407,35 +412,47 @@ columned-agree {f} {g} {m} {o} {starts} {cs} h u =
       all-few = omega (arith, u .all-few, e m (omega arith));
     }
 
-module _ (f t o : Part) {ostarts ocs tstarts tcs : List ℕ} {xs₀ xs txs : List Float} (P : ℕ → List Term) {n m c : ℕ} {sums : List Float}
-    (before : Stored ostarts (f .s) ocs xs₀ (f .k) n n) (behind : f .k + getD ostarts (f .s + n) 0 ≤ o .k)
+module _ (fine : FineRows) (l : FullLattice) (eps : List Float) (t o : Part) {ostarts ocs tstarts tcs : List ℕ} {xs₀ xs txs : List Float} (P : ℕ → List Term) {n m c : ℕ} {sums : List Float}
+    (ready : FineReady fine l eps ostarts ocs xs₀ n) (before : FineBefore fine ostarts n o)
     (turned : Stored tstarts (t .s) tcs txs (t .k) m n)
-    (laid : RowsLaid (galerkinNumbers (rowsIn f ostarts ocs xs₀) P (rowsIn t tstarts tcs txs)) m (o .k) xs₀ xs sums c) where
-  pub stored-now : Stored ostarts (f .s) ocs xs (f .k) n n
-  stored-now = rw (laid .list) (stored-laid before (o .k) (rows (galerkinNumbers (rowsIn f ostarts ocs xs₀) P (rowsIn t tstarts tcs txs)) c))
+    (laid : RowsLaid (galerkinNumbers (fineRow fine l (numberAt eps) ostarts ocs xs₀) P (rowsIn t tstarts tcs txs)) m (o .k) xs₀ xs sums c) where
+  abbrev first : ℕ → List Term
+  first = fineRow fine l (numberAt eps) ostarts ocs xs₀
+
+  abbrev now : ℕ → List Term
+  now = fineRow fine l (numberAt eps) ostarts ocs xs
+
+  abbrev R : ℕ → List Term
+  R = rowsIn t tstarts tcs txs
+
+  pub fine-ready : FineReady fine l eps ostarts ocs xs n
+  fine-ready =
+      record {
+        computed = ready .computed;
+        stored = λ f e. rw (laid .list) (stored-laid (ready .stored f e) (o .k) (rows (galerkinNumbers first P R) c));
+      }
 
   -- each fine row is as it was
-  fine-now : (r : ℕ) → r < n → rowsIn f ostarts ocs xs₀ r ≡ rowsIn f ostarts ocs xs r
-  fine-now r h =
-      sym (ap (λ (ys : List Float). rowsIn f ostarts ocs ys r) (laid .list)
-      ∙ stored-kept before (o .k) (rows (galerkinNumbers (rowsIn f ostarts ocs xs₀) P (rowsIn t tstarts tcs txs)) c) behind r h)
+  fine-now : (r : ℕ) → r < n → first r ≡ now r
+  fine-now r h = go fine refl
+    where
+      go : (g : FineRows) → fine ≡ g → first r ≡ now r
+      go Computed e = row-computed l (numberAt eps) ostarts ocs xs₀ e r ∙ sym (row-computed l (numberAt eps) ostarts ocs xs e r)
+      go (StoredFrom f) e =
+          row-stored l (numberAt eps) ostarts ocs xs₀ f e r
+          ∙ (sym
+          (ap (λ (ys : List Float). rowsIn f ostarts ocs ys r) (laid .list)
+          ∙ stored-kept (ready .stored f e) (o .k) (rows (galerkinNumbers first P R) c) (before .ends f e) r h)
+          ∙ sym (row-stored l (numberAt eps) ostarts ocs xs f e r))
 
   -- and so is each row of Galerkin's operator
-  row-now : (d : ℕ) → d < m → galerkinRow (rowsIn f ostarts ocs xs₀) P (rowsIn t tstarts tcs txs) d ≡ galerkinRow (rowsIn f ostarts ocs xs) P (rowsIn t tstarts tcs txs) d
+  row-now : (d : ℕ) → d < m → galerkinRow first P R d ≡ galerkinRow now P R d
   unfolding fineRowsRead
-  row-now d h =
-      galerkin-local (rowsIn f ostarts ocs xs₀) (rowsIn f ostarts ocs xs) P P (rowsIn t tstarts tcs txs) (rowsIn t tstarts tcs txs) d refl
-      (λ r e. fine-now r (stored-low turned d h r e)) (λ s e. refl)
+  row-now d h = galerkin-local first now P P R R d refl (λ r e. fine-now r (stored-low turned d h r e)) (λ s e. refl)
 
-  pub columned-now : Columned (galerkinColumns (rowsIn f ostarts ocs xs₀) P (rowsIn t tstarts tcs txs)) m o ostarts ocs
-      → Columned (galerkinColumns (rowsIn f ostarts ocs xs) P (rowsIn t tstarts tcs txs)) m o ostarts ocs
-  unfolding galerkinColumns
-  columned-now u = columned-agree (λ d h. ap columnsOf (row-now d h)) u
-
-  pub met-now : MetAll (rowsIn f ostarts ocs xs₀) P (rowsIn t tstarts tcs txs) m → c < m → Met (rowsIn f ostarts ocs xs) P (rowsIn t tstarts tcs txs) c
+  met-now : MetAll first P R m → c < m → Met now P R c
   met-now u h =
-      let R : ℕ → List Term = rowsIn t tstarts tcs txs in
-      let w : Met (rowsIn f ostarts ocs xs₀) P R c = u .each-met c h in
+      let w : Met first P R c = u .each-met c h in
       record {
         diagonal = λ q b.
             let r : ℕ = getD (columnsOf (R c)) q 0 in
@@ -444,17 +461,20 @@ module _ (f t o : Part) {ostarts ocs tstarts tcs : List ℕ} {xs₀ xs txs : Lis
         back = w .back;
       }
 
-  pub stored-turn : {xs′ sums′ : List Float} → c < m
-      → xs′
-      ≡ laidNumbers xs (o .k + startOf (galerkinColumns (rowsIn f ostarts ocs xs) P (rowsIn t tstarts tcs txs)) c)
-      (galerkinNumbers (rowsIn f ostarts ocs xs) P (rowsIn t tstarts tcs txs) c)
-      → length sums′ ≡ 24576
-      → RowsLaid (galerkinNumbers (rowsIn f ostarts ocs xs₀) P (rowsIn t tstarts tcs txs)) m (o .k) xs₀ xs′ sums′ (c + 1)
-  unfolding galerkinColumns galerkinNumbers
-  stored-turn h e l =
-      let A : ℕ → List Term = rowsIn f ostarts ocs xs₀ in
-      let A′ : ℕ → List Term = rowsIn f ostarts ocs xs in
-      let R : ℕ → List Term = rowsIn t tstarts tcs txs in
-      let p : startOf (galerkinColumns A′ P R) c ≡ startOf (galerkinColumns A P R) c =
-      sym (start-agree (galerkinColumns A P R) (galerkinColumns A′ P R) m (λ d b. ap columnsOf (row-now d b)) c (omega arith)) in
-      rows-turn A P R laid h (e ∙ (λ i. laidNumbers xs (o .k + p i) (numbersOf (sym (row-now c h) i)))) l
+  pub row-ready : RowsReady first P R m o ostarts ocs xs₀ → c < m → RowReady now P R c o ostarts ocs
+  unfolding galerkinColumns
+  row-ready u h =
+      record {
+        m = m;
+        columned = columned-agree (λ d b. ap columnsOf (row-now d b)) (u .columned);
+        met = met-now (u .met) h;
+        low = h;
+      }
+
+  pub row-turn : {xs′ sums′ : List Float} → c < m → xs′ ≡ rowLaid now P R c o xs → sums′ ≡ noSums
+      → RowsLaid (galerkinNumbers first P R) m (o .k) xs₀ xs′ sums′ (c + 1)
+  unfolding rowLaid galerkinColumns galerkinNumbers
+  row-turn h e z =
+      let p : startOf (galerkinColumns now P R) c ≡ startOf (galerkinColumns first P R) c =
+      sym (start-agree (galerkinColumns first P R) (galerkinColumns now P R) m (λ d b. ap columnsOf (row-now d b)) c (omega arith)) in
+      rows-turn first P R laid h (e ∙ (λ i. laidNumbers xs (o .k + p i) (numbersOf (sym (row-now c h) i)))) z

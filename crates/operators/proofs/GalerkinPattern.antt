@@ -1,45 +1,55 @@
 -- The columns of Galerkin's rows are the diagonal and what the levels touch: so they are the columns that the relations pick.
 -- Assumes nothing.
 use Prim.Native.Nat.{ℕ, zero, suc, _<_}
-use mathlib.Core.Path.{_≡_, refl, sym, ap, subst}
+use mathlib.Core.Path.{_≡_, refl, sym, ap, _∙_, subst}
 use mathlib.Core.Logic.{inl, inr, ⊎-elim, _↔_}
 use mathlib.Core.Bool.{true}
 use native.Mathlib.Omega.{arith}
 use Rattle.numbers.specs.declared.C64.{C64}
 use Rattle.lattice.specs.declared.grid.Grid3d.{Grid3d}
 use Rattle.lattice.specs.declared.grid.Position.{Position}
-use Rattle.lattice.specs.Grid.{axis3, nOf, indexOf, atOf, unknownsOf, Limits, Inside}
-use Rattle.lattice.specs.Lattice.{Medium}
-use Rattle.lattice.specs.Line.{Rises}
+use Rattle.lattice.specs.Grid.{indexOf, atOf, unknownsOf, Limits, Inside}
+use Rattle.lattice.specs.Lattice.{FullLattice}
+use Rattle.numbers.specs.Lists.{Rises, contains}
 use Rattle.lattice.specs.Rows.{rowInto}
-use Rattle.lattice.specs.Terms.{columnsOf}
+use Rattle.numbers.specs.Terms.{columnsOf}
+use Rattle.lattice.proofs.Equations.{nOf-0, nOf-1, nOf-2}
 use Rattle.lattice.proofs.GridLaws.{at-inside, index-at, index-below}
-use Rattle.weights.specs.Transfer.{contains}
-use Rattle.weights.specs.TwoLevels.{gridWith}
-use Rattle.operators.specs.Collect.{atFirst}
+use Rattle.weights.proofs.Equations.{gridWith-is}
+use Rattle.numbers.specs.Collect.{atFirst}
 use Rattle.operators.specs.Galerkin.{galerkinRow}
 use Rattle.operators.specs.Levels.{forwardAt, turnedAt, galerkinAt, gridAt, ladderOf, spotOf}
 use Rattle.operators.specs.Pattern.{Ladder, box, Forward, SpotEdge, spotEdge, Row}
 use Rattle.operators.specs.Relation.{Spot, Within}
 use Rattle.operators.specs.Stencil.{shiftTerms, stencilRow}
-use Rattle.operators.proofs.CollectLaws.{none, from-rises, collected-from}
-use Rattle.operators.proofs.ColumnSorted.{In, Span}
-use Rattle.operators.proofs.ForwardPattern.{grid-limits, forward-in, forward-low, turned-named}
-use Rattle.operators.proofs.ListedPlaces.{contains-in, in-contains, index-one}
+use Rattle.numbers.proofs.CollectLaws.{none, from-rises, collected-from}
+use Rattle.numbers.proofs.MemberLaws.{In, Span, contains-in, in-contains}
+use Rattle.operators.proofs.ForwardPattern.{grid-limits, within, within-inside, forward-in, forward-low, turned-named}
+use Rattle.lattice.proofs.ColumnLaws.{index-one, finest-cells}
 use Rattle.operators.proofs.PatternTheorem.{Touched}
-use Rattle.operators.proofs.StencilPattern.{finest-cells, stencil-lists, stencil-in}
+use Rattle.operators.proofs.StencilPattern.{stencil-lists, stencil-in}
 use Rattle.operators.proofs.StencilRow.{placed}
-use Rattle.operators.proofs.RowMembers.{rises-span, Via, row-via, via-row, galerkin-rises}
+use Rattle.numbers.proofs.GatheredLaws.{rises-span}
+use Rattle.operators.proofs.RowMembers.{Via, row-via, via-row, galerkin-rises}
 
 -- ---- level 0
 
 -- it has the lattice's own cells
-pub grid-first : (l : Medium) → gridAt l 0 ≡ l .grid
-unfolding gridAt gridWith nOf axis3
+pub grid-first : (l : FullLattice) → gridAt l 0 ≡ l .grid
+unfolding gridAt
 grid-first l =
-    λ i. record { nx = finest-cells l 0 i; ny = finest-cells l 1 i; nz = finest-cells l 2 i; dx = l .grid .dx; dy = l .grid .dy; dz = l .grid .dz }
+    rw gridWith-is
+    (λ i.
+    record {
+      nx = (finest-cells l 0 ∙ nOf-0 (l .grid)) i;
+      ny = (finest-cells l 1 ∙ nOf-1 (l .grid)) i;
+      nz = (finest-cells l 2 ∙ nOf-2 (l .grid)) i;
+      dx = l .grid .dx;
+      dy = l .grid .dy;
+      dz = l .grid .dz;
+    })
 
-module _ (l : Medium) (f : ℕ → C64) (r : ℕ) where
+module _ (l : FullLattice) (f : ℕ → C64) (r : ℕ) where
   -- the columns of the lattice's own row are edges of the lattice
   pub stencil-low : Limits (l .grid) → r < unknownsOf (l .grid) → (c : ℕ) → In c (columnsOf (stencilRow l f r)) → c < unknownsOf (l .grid)
   stencil-low limits h c i =
@@ -48,13 +58,13 @@ module _ (l : Medium) (f : ℕ → C64) (r : ℕ) where
       subst (λ (m : ℕ). m < unknownsOf (l .grid)) (t .is) (index-below limits (t .inside))
 
   -- and rise
-  stencil-rises : Rises (columnsOf (stencilRow l f r))
+  pub stencil-rises : Rises (columnsOf (stencilRow l f r))
   unfolding stencilRow
   stencil-rises = from-rises (collected-from atFirst (shiftTerms l f r) (collected-from atFirst (rowInto l f r) none))
 
 -- ---- the columns of a row are edges of its level, and rise
 
-module _ (l : Medium) (limits : Limits (l .grid)) (f : ℕ → C64) where
+module _ (l : FullLattice) (limits : Limits (l .grid)) (f : ℕ → C64) where
   pub galerkin-low : (L r : ℕ) → r < unknownsOf (gridAt l L) → (c : ℕ) → In c (columnsOf (galerkinAt l f L r)) → c < unknownsOf (gridAt l L)
   unfolding galerkinAt
   galerkin-low zero r h c i =
@@ -67,7 +77,7 @@ module _ (l : Medium) (limits : Limits (l .grid)) (f : ℕ → C64) where
       forward-low l limits f L (t .k) c (galerkin-low L (t .r) (u .0) (t .k) (t .fine)) (t .forward))
       (row-via (galerkinAt l f L) (forwardAt l f L) (turnedAt l f L) r c i)
 
-  row-rises : (L r : ℕ) → Rises (columnsOf (galerkinAt l f L r))
+  pub row-rises : (L r : ℕ) → Rises (columnsOf (galerkinAt l f L r))
   unfolding galerkinAt
   row-rises zero r = stencil-rises l f r
   row-rises (suc L) r = galerkin-rises (galerkinAt l f L) (forwardAt l f L) (turnedAt l f L) r
@@ -78,7 +88,7 @@ module _ (l : Medium) (limits : Limits (l .grid)) (f : ℕ → C64) where
 -- ---- they are those that the levels touch
 
 -- on level L an edge is a column just where the levels touch it
-abbrev pub Touches : Medium → (ℕ → C64) → ℕ → Type 0
+abbrev pub Touches : FullLattice → (ℕ → C64) → ℕ → Type 0
 Touches l f L =
     (p q : Position) → Inside (gridAt l L) p → Inside (gridAt l L) q
     → (contains (indexOf (gridAt l L) q) (columnsOf (galerkinAt l f L (indexOf (gridAt l L) p))) ≡ true)
@@ -91,17 +101,12 @@ edgeOf p = spotEdge (p .component) (spotOf p)
 abbrev pub positionOf : SpotEdge → Position
 positionOf e = placed (e .comp) (e .at)
 
-module _ (l : Medium) (L : ℕ) where
-  pub within : (p : Position) → Inside (gridAt l L) p → Within (box (ladderOf l) L) (spotOf p)
-  unfolding gridAt gridWith
-  within p h = record { x = h .i-in; y = h .j-in; z = h .k-in }
-
+module _ (l : FullLattice) (L : ℕ) where
   pub inside : (a : ℕ) (s : Spot) → a < 3 → Within (box (ladderOf l) L) s → Inside (gridAt l L) (placed a s)
-  unfolding gridAt gridWith
-  inside a s h w = record { c-in = h; i-in = w .x; j-in = w .y; k-in = w .z }
+  inside a s h w = within-inside l L (placed a s) h w
 
 -- the step from level L to the next, where p and q are edges of the next
-module _ (l : Medium) (limits : Limits (l .grid)) (f : ℕ → C64) (L : ℕ) (fine : Touches l f L) (p q : Position)
+module _ (l : FullLattice) (limits : Limits (l .grid)) (f : ℕ → C64) (L : ℕ) (fine : Touches l f L) (p q : Position)
     (from : Inside (gridAt l (suc L)) p) (to : Inside (gridAt l (suc L)) q) where
   abbrev Named : Type 0
   Named = Via (galerkinAt l f L) (forwardAt l f L) (turnedAt l f L (indexOf (gridAt l (suc L)) p)) (indexOf (gridAt l (suc L)) q)
@@ -183,7 +188,7 @@ module _ (l : Medium) (limits : Limits (l .grid)) (f : ℕ → C64) (L : ℕ) (f
       )
 
 -- on level 0 it does so by the lattice's own row
-touches-first : (l : Medium) → Limits (l .grid) → (f : ℕ → C64) → Touches l f 0
+touches-first : (l : FullLattice) → Limits (l .grid) → (f : ℕ → C64) → Touches l f 0
 unfolding galerkinAt
 touches-first l limits f =
     subst
@@ -192,6 +197,6 @@ touches-first l limits f =
     (sym (grid-first l)) (λ p q a b. stencil-in l p q f limits a b)
 
 -- so it does on every level
-pub galerkin-in : (l : Medium) → Limits (l .grid) → (f : ℕ → C64) (L : ℕ) → Touches l f L
+pub galerkin-in : (l : FullLattice) → Limits (l .grid) → (f : ℕ → C64) (L : ℕ) → Touches l f L
 galerkin-in l limits f zero = touches-first l limits f
 galerkin-in l limits f (suc L) = touches-next l limits f L (galerkin-in l limits f L)

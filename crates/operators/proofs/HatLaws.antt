@@ -11,7 +11,7 @@ use mathlib.Core.Bool.{Bool, true, false, _&&_, cond}
 use mathlib.Core.Logic.{_⊎_, inl, inr, ⊎-elim}
 use mathlib.Core.List.{List, [], _∷_, _++_}
 use borrow.Author.Count.{below-more}
-use borrow.Author.Tests.{ltb-true, ltb-false, lt-ltb, le-ltb, eq-eqb, ne-eqb}
+use borrow.Author.Tests.{ltb-true, lt-ltb, le-ltb, eq-eqb, ne-eqb}
 use lib.Dec.{eqb, ltb}
 use lib.ListN.{length, getD, set, replicate, length-set, length-append, List·getD-append}
 use lib.Seq.{getD-set-same, getD-set-other}
@@ -20,36 +20,30 @@ use Rattle.numbers.specs.declared.C64.{C64}
 use Rattle.numbers.specs.Complex.{oneF}
 use Rattle.lattice.specs.declared.levels.Three.{Three}
 use Rattle.lattice.specs.declared.line.Line.{Line}
-use Rattle.lattice.specs.Grid.{axis3, nOf, Limits}
-use Rattle.lattice.specs.Lattice.{Medium, edgesOf, isWall, tabulate}
+use Rattle.lattice.specs.declared.lattice.Edges.{Edges}
+use Rattle.lattice.specs.Grid.{nOf, Limits}
+use Rattle.lattice.specs.Lattice.{FullLattice, edgesOf, isWall}
+use Rattle.numbers.specs.Lists.{tabulate, before, laid, laidBy}
 use Rattle.lattice.specs.Levels.{target, lineAt, threeAt}
-use Rattle.lattice.specs.Line.{packed, endsOf, coarserEnds, before, nodesOf, Held, LineOver}
+use Rattle.lattice.specs.Line.{packed, endsOf, coarserEnds, nodesOf, Held, LineOver}
 use Rattle.lattice.specs.Stretched.{acrossMap}
 use Rattle.lattice.proofs.GridLaws.{n-most}
 use Rattle.lattice.proofs.LevelLaws.{line-over}
-use Rattle.lattice.proofs.LineLaws.{length-ends, ends-at, ends-packed, rises-below, over-held, length-nodes, nodes-at}
-use Rattle.lattice.proofs.TabulateLaws.{length-tabulate}
-use Rattle.weights.specs.Lists.{laid, laidBy}
+use Rattle.lattice.proofs.LineLaws.{length-ends, ends-at, ends-packed, over-held, length-nodes, nodes-at}
+use Rattle.numbers.proofs.ListLaws.{rises-below, laid-behind-laid, laid-none, laid-one}
+use Rattle.numbers.proofs.TabulateLaws.{length-tabulate}
 use Rattle.weights.specs.TwoLevels.{TwoLevels, fineLine, coarseLine, fineCells, coarseCells, twoOf}
-use Rattle.weights.proofs.ListLaws.{laid-behind-laid}
+use Rattle.weights.specs.Tables.{linesIn}
+use Rattle.numbers.proofs.Equations.{tabulate-zero, tabulate-suc, laidBy-nil, laidBy-cons}
+use Rattle.lattice.proofs.Equations.{edgesOf-0, edgesOf-1, edgesOf-2, lineAt-suc, threeAt-is}
+use Rattle.weights.proofs.Equations.{fineCells-is, coarseCells-is, linesIn-0, linesIn-1, linesIn-2}
 use Rattle.weights.proofs.PairLaws.{node-below, node-most, paired-at}
 use Rattle.operators.specs.declared.averaged.Hat.{Hat}
-use Rattle.operators.specs.Averaged.{hatWeight, wrappedPlace, walk, nodeIn, hatPlace, nodeBefore, lowerHats, hatAbove, upperHats, around, hatsAround, hatNodes, hatWeights, HatsLaid, hatAt, hatsIn, Hats, AxisHats, LinePair, PairedLines}
+use Rattle.operators.specs.Averaged.{hatWeight, wrappedPlace, walk, nodeIn, hatPlace, nodeBefore, lowerHats, hatAbove, upperHats, around, hatsAround, hatNodes, hatWeights, HatsLaid, NodesFrom, hatAt, hatsIn, Hats, AxisHats, LinePair, PairedLines}
 use Rattle.operators.proofs.NeighbourSpots.{low3}
-
--- ---- values laid over a list of any kind: the length, and what is read elsewhere
-
-module _ {A : Type 0} where
-  laid-long : (xs : List A) (k : ℕ) (vs : List A) → length (laidBy set xs k vs) ≡ length xs
-  unfolding laidBy
-  laid-long xs k [] = refl
-  laid-long xs k (v ∷ vs) = laid-long (set xs k v) (suc k) vs ∙ length-set xs k v
-
-  laid-apart : (xs : List A) (k : ℕ) (vs : List A) (j : ℕ) (d : A) → ((i : ℕ) → i < length vs → j ≡ k + i → ⊥) → getD (laidBy set xs k vs) j d ≡ getD xs j d
-  unfolding laidBy
-  laid-apart xs k [] j d h = refl
-  laid-apart xs k (v ∷ vs) j d h =
-      laid-apart (set xs k v) (suc k) vs j d (λ i b e. h (suc i) (omega arith) (omega arith)) ∙ getD-set-other xs k j v d (λ e. h 0 (omega arith) (omega arith))
+use Rattle.numbers.proofs.ElementLaws.{laid-long, laid-apart, before-reached}
+use Rattle.lattice.proofs.PlaceLaws.{cells-packed}
+use Rattle.weights.proofs.LevelLines.{two-base, two-fine, two-coarse}
 
 -- ---- hats laid over two lists: none, one, one list of them behind another
 
@@ -74,14 +68,14 @@ weights-append [] gs = refl
 weights-append (h ∷ hs) gs = ap (λ (ws : List Float). h .weight ∷ ws) (weights-append hs gs)
 
 pub hats-none : {ns : List ℕ} {ws : List Float} {k : ℕ} → HatsLaid ns ws k [] ns ws k
-unfolding laidBy hatNodes hatWeights
-hats-none = record { nodes = refl; weights = refl; next = omega arith }
+unfolding hatNodes hatWeights
+hats-none = record { nodes = laid-none .list; weights = laid-none .list; next = omega arith }
 
 -- where a list ends before the place, it stays as it is
 pub hats-one : {ns ns′ : List ℕ} {ws ws′ : List Float} {k : ℕ} (h : Hat) → ns′ ≡ set ns k (h .node) → ws′ ≡ set ws k (h .weight)
     → HatsLaid ns ws k (h ∷ []) ns′ ws′ (k + 1)
-unfolding laidBy hatNodes hatWeights
-hats-one h p q = record { nodes = p; weights = q; next = refl }
+unfolding hatNodes hatWeights
+hats-one {k = k} h p q = record { nodes = laid-one {k = k} p refl .list; weights = laid-one {k = k} q refl .list; next = refl }
 
 pub hats-append : {ns ns′ ns″ : List ℕ} {ws ws′ ws″ : List Float} {k r s : ℕ} {hs gs : List Hat}
     → HatsLaid ns ws k hs ns′ ws′ r → HatsLaid ns′ ws′ r gs ns″ ws″ s → HatsLaid ns ws k (hs ++ gs) ns″ ws″ s
@@ -121,27 +115,30 @@ left-start = record { nodes-long = refl; weights-long = refl; nodes = refl; weig
 
 left-one : {ns₀ ns ns′ : List ℕ} {ws₀ ws ws′ : List Float} {from k r : ℕ} {whole : List Hat} (h : Hat) (rest : List Hat)
     → HatsLeft ns₀ ws₀ from whole ns ws k (h ∷ rest) → HatsLaid ns ws k (h ∷ []) ns′ ws′ r → HatsLeft ns₀ ws₀ from whole ns′ ws′ r rest
-unfolding laidBy hatNodes hatWeights
+unfolding hatNodes hatWeights
 left-one {ns₀} {ns} {ns′} {ws₀} {ws} {ws′} {from} {k} {r} h rest p q =
     let e : r ≡ suc k = omega (arith, q .next) in
+    let u : ns′ ≡ set ns k (h .node) = q .nodes ∙ laidBy-cons set ns k (h .node) [] ∙ laidBy-nil set (set ns k (h .node)) (suc k) in
+    let v : ws′ ≡ set ws k (h .weight) = q .weights ∙ laidBy-cons set ws k (h .weight) [] ∙ laidBy-nil set (set ws k (h .weight)) (suc k) in
     record {
-      nodes-long = ap length (q .nodes) ∙ length-set ns k (h .node) ∙ p .nodes-long;
-      weights-long = ap length (q .weights) ∙ length-set ws k (h .weight) ∙ p .weights-long;
-      nodes = (λ i. laid (q .nodes i) (e i) (hatNodes rest)) ∙ p .nodes;
-      weights = (λ i. laidBy set (q .weights i) (e i) (hatWeights rest)) ∙ p .weights;
+      nodes-long = ap length u ∙ length-set ns k (h .node) ∙ p .nodes-long;
+      weights-long = ap length v ∙ length-set ws k (h .weight) ∙ p .weights-long;
+      nodes = (λ i. laid (u i) (e i) (hatNodes rest)) ∙ sym (laidBy-cons set ns k (h .node) (hatNodes rest)) ∙ p .nodes;
+      weights = (λ i. laidBy set (v i) (e i) (hatWeights rest)) ∙ sym (laidBy-cons set ws k (h .weight) (hatWeights rest)) ∙ p .weights;
       ends = omega (arith, p .ends);
     }
 
 left-end : {ns₀ ns : List ℕ} {ws₀ ws : List Float} {from k : ℕ} {whole : List Hat} → HatsLeft ns₀ ws₀ from whole ns ws k [] → HatsLaid ns₀ ws₀ from whole ns ws k
-unfolding laidBy hatNodes hatWeights
-left-end p = record { nodes = p .nodes; weights = p .weights; next = omega (arith, p .ends) }
+unfolding hatNodes hatWeights
+left-end {ns = ns} {ws = ws} {k = k} p =
+    record { nodes = sym (laidBy-nil set ns k) ∙ p .nodes; weights = sym (laidBy-nil set ws k) ∙ p .weights; next = omega (arith, p .ends) }
 
 -- ---- hats read back
 
 pub hats-read : (ns : List ℕ) (ws : List Float) (k : ℕ) (hs : List Hat) → k + length hs ≤ length ns → k + length hs ≤ length ws
     → hatsIn (laid ns k (hatNodes hs)) (laidBy set ws k (hatWeights hs)) k (length hs) ≡ hs
-unfolding hatsIn hatAt tabulate laidBy hatNodes hatWeights
-hats-read ns ws k [] a b = refl
+unfolding hatsIn hatAt hatNodes hatWeights
+hats-read ns ws k [] a b = tabulate-zero (hatAt (laid ns k []) (laidBy set ws k [])) k
 hats-read ns ws k (h ∷ hs) a b =
     let ns₁ : List ℕ = set ns k (h .node) in
     let ws₁ : List Float = set ws k (h .weight) in
@@ -151,17 +148,23 @@ hats-read ns ws k (h ∷ hs) a b =
     laid-apart ws₁ (suc k) (hatWeights hs) k nan (λ i c e. omega arith) ∙ getD-set-same ws k (h .weight) nan (omega arith) in
     let rest : tabulate (hatAt (laid ns₁ (suc k) (hatNodes hs)) (laidBy set ws₁ (suc k) (hatWeights hs))) (length hs) (suc k) ≡ hs =
     hats-read ns₁ ws₁ (suc k) hs (omega (arith, length-set ns k (h .node))) (omega (arith, length-set ws k (h .weight))) in
-    λ i. record { node = p i; weight = q i } ∷ rest i
+    rw (
+      laidBy-cons set ns k (h .node) (hatNodes hs),
+      laidBy-cons set ws k (h .weight) (hatWeights hs),
+      tabulate-suc (hatAt (laid ns₁ (suc k) (hatNodes hs)) (laidBy set ws₁ (suc k) (hatWeights hs))) (length hs) k,
+    )
+    (λ i. record { node = p i; weight = q i } ∷ rest i)
 
 -- two pairs of lists that agree where the hats stand
 hats-agree : (ns ns′ : List ℕ) (ws ws′ : List Float) (k n : ℕ) → ((i : ℕ) → k ≤ i → i < k + n → getD ns′ i 0 ≡ getD ns i 0)
     → ((i : ℕ) → k ≤ i → i < k + n → getD ws′ i nan ≡ getD ws i nan) → hatsIn ns′ ws′ k n ≡ hatsIn ns ws k n
-unfolding hatsIn hatAt tabulate
-hats-agree ns ns′ ws ws′ k zero p q = refl
+unfolding hatsIn hatAt
+hats-agree ns ns′ ws ws′ k zero p q = rw (tabulate-zero (hatAt ns′ ws′) k, tabulate-zero (hatAt ns ws) k)
 hats-agree ns ns′ ws ws′ k (suc n) p q =
     let rest : tabulate (hatAt ns′ ws′) n (suc k) ≡ tabulate (hatAt ns ws) n (suc k) =
     hats-agree ns ns′ ws ws′ (suc k) n (λ i a b. p i (omega arith) (omega arith)) (λ i a b. q i (omega arith) (omega arith)) in
-    λ i. record { node = p k (omega arith) (omega arith) i; weight = q k (omega arith) (omega arith) i } ∷ rest i
+    rw (tabulate-suc (hatAt ns′ ws′) n k, tabulate-suc (hatAt ns ws) n k)
+    (λ i. record { node = p k (omega arith) (omega arith) i; weight = q k (omega arith) (omega arith) i } ∷ rest i)
 
 -- ---- nodes below b
 
@@ -174,11 +177,11 @@ unfolding Below
 below-append b [] gs p q = q
 below-append b (h ∷ hs) gs p q = (p .0, below-append b hs gs (p .1) q)
 
-below-in : (b : ℕ) (ns : List ℕ) (ws : List Float) (k n : ℕ) → Below b (hatsIn ns ws k n) → (i q : ℕ) → i ≡ k + q → q < n → getD ns i 0 < b
-unfolding Below hatsIn hatAt tabulate
+pub below-in : (b : ℕ) (ns : List ℕ) (ws : List Float) (k n : ℕ) → Below b (hatsIn ns ws k n) → (i q : ℕ) → i ≡ k + q → q < n → getD ns i 0 < b
+unfolding Below hatsIn hatAt
 below-in b ns ws k zero p i q e h = absurd (omega arith)
-below-in b ns ws k (suc n) p i zero e h = let d : i ≡ k = omega arith in rw d (p .0)
-below-in b ns ws k (suc n) p i (suc q) e h = below-in b ns ws (suc k) n (p .1) i q (omega arith) (omega arith)
+below-in b ns ws k (suc n) p i zero e h = let d : i ≡ k = omega arith in rw d ((rw (tabulate-suc (hatAt ns ws) n k) at p) .0)
+below-in b ns ws k (suc n) p i (suc q) e h = below-in b ns ws (suc k) n ((rw (tabulate-suc (hatAt ns ws) n k) at p) .1) i q (omega arith) (omega arith)
 
 -- ---- the walk over lower neighbours
 
@@ -229,7 +232,7 @@ module _ (es : List ℕ) (at width : ℕ) where
 -- ---- by a record that holds the line
 
 module _ {l : Line} (held : Held l) where
-  ends-cells : length (endsOf l) - 1 ≡ l .cells
+  pub ends-cells : length (endsOf l) - 1 ≡ l .cells
   ends-cells = omega (arith, length-ends l held)
 
   pub wrapped-inside : (q : ℕ) → q < l .cells → getD (l .ends) q 0 ≡ wrappedPlace (endsOf l) q
@@ -309,12 +312,12 @@ module _ {f : Line} {at width first last : ℕ} {ns₀ : List ℕ} {ws₀ : List
   pub climbing-turn : {ns ns′ : List ℕ} {ws ws′ : List Float} {k q r : ℕ} {w : Float} → last ≤ f .cells
       → Climbing f at width first last ns₀ ws₀ from ns ws k q → q < last → w ≡ hatWeight (getD (f .ends) q 0 - at) width
       → HatsLaid ns ws k (record { node = q; weight = w } ∷ []) ns′ ws′ r → Climbing f at width first last ns₀ ws₀ from ns′ ws′ r (q + 1)
-  unfolding tabulate hatAbove
+  unfolding hatAbove
   climbing-turn {ns} {ns′} {ws} {ws′} {k} {q} {r} {w} a p h g o =
       let n : last - q ≡ suc (last - (q + 1)) = omega arith in
       let rest : List Hat = tabulate (hatAbove (endsOf f) at width) (last - (q + 1)) (q + 1) in
       let t : tabulate (hatAbove (endsOf f) at width) (last - q) q ≡ record { node = q; weight = w } ∷ rest =
-      rw (n, ends-at f q (omega arith), ← g, ← add-one q) refl in
+      rw (n, tabulate-suc (hatAbove (endsOf f) at width) (last - (q + 1)) q, ends-at f q (omega arith), ← g, ← add-one q) refl in
       record {
         begun = omega (arith, p .begun);
         next = omega (arith, p .begun, p .next, o .next);
@@ -323,28 +326,17 @@ module _ {f : Line} {at width first last : ℕ} {ns₀ : List ℕ} {ws₀ : List
 
   pub climbing-end : {ns : List ℕ} {ws : List Float} {k q : ℕ} → Climbing f at width first last ns₀ ws₀ from ns ws k q → last ≤ q
       → HatsLaid ns₀ ws₀ from (tabulate (hatAbove (endsOf f) at width) (last - first) first) ns ws k
-  unfolding tabulate
   climbing-end {ns} {ws} {k} {q} p h =
       let n : last - q ≡ 0 = omega arith in
-      left-end (rw n at (p .left))
+      left-end (rw (n, tabulate-zero (hatAbove (endsOf f) at width) q) at (p .left))
 
 -- ---- a fine line and a coarse one
 
--- the first end that is not below e
-before-reached : (e : ℕ) (es : List ℕ) → before e es < length es → e ≤ getD es (before e es) 0
-unfolding before
-before-reached e [] h = absurd (omega arith)
-before-reached e (f ∷ es) h = go (ltb f e) refl h (before-reached e es)
-  where
-    go : (s : Bool) → ltb f e ≡ s → cond s (suc (before e es)) 0 < suc (length es) → (before e es < length es → e ≤ getD es (before e es) 0)
-        → e ≤ getD (f ∷ es) (cond s (suc (before e es)) 0) 0
-    go false q h r = ltb-false f e q
-    go true q h r = r (omega arith)
-
 tabulate-below : (b : ℕ) (es : List ℕ) (at width n q : ℕ) → q + n ≤ b → Below b (tabulate (hatAbove es at width) n q)
-unfolding Below tabulate hatAbove
-tabulate-below b es at width zero q h = tt
-tabulate-below b es at width (suc n) q h = (omega arith, tabulate-below b es at width n (suc q) (omega arith))
+unfolding Below hatAbove
+tabulate-below b es at width zero q h = rw (tabulate-zero (hatAbove es at width) q) tt
+tabulate-below b es at width (suc n) q h =
+    rw (tabulate-suc (hatAbove es at width) n q) (omega arith, tabulate-below b es at width n (suc q) (omega arith))
 
 module _ {f c : Line} (pair : LinePair f c) where
   coarse-rise : (i j : ℕ) → i < j → j ≤ c .cells → getD (c .ends) i 0 < getD (c .ends) j 0
@@ -435,7 +427,7 @@ module _ {f c : Line} (pair : LinePair f c) where
       ))
 
   upper-below : (m : ℕ) → m < c .cells → Below (length (endsOf f) - 1) (upperHats (endsOf f) (endsOf c) m)
-  unfolding Below tabulate
+  unfolding Below
   upper-below m h =
       let k = nodeIn (endsOf f) (endsOf c) m in
       let n = nodeIn (endsOf f) (endsOf c) (m + 1) in
@@ -447,7 +439,7 @@ module _ {f c : Line} (pair : LinePair f c) where
           (nodeIn (endsOf f) (endsOf c) (m + 1) - (nodeIn (endsOf f) (endsOf c) m + 1)) (nodeIn (endsOf f) (endsOf c) m + 1))
       go (yes b) t = tabulate-below (length (endsOf f) - 1) (endsOf f) (getD (c .ends) m 0) (getD (c .ends) (m + 1) 0 - getD (c .ends) m 0)
           (nodeIn (endsOf f) (endsOf c) (m + 1) - (nodeIn (endsOf f) (endsOf c) m + 1)) (nodeIn (endsOf f) (endsOf c) m + 1) (omega arith)
-      go (no b) t = let e : nodeIn (endsOf f) (endsOf c) (m + 1) - (nodeIn (endsOf f) (endsOf c) m + 1) ≡ 0 = omega arith in rw e tt
+      go (no b) t = let e : nodeIn (endsOf f) (endsOf c) (m + 1) - (nodeIn (endsOf f) (endsOf c) m + 1) ≡ 0 = omega arith in rw (e, tabulate-zero) tt
 
   -- at most 127, each on the line
   pub around-most : (wall : Bool) (m : ℕ) → m < c .cells → length (around wall (endsOf f) (endsOf c) m) ≤ 127
@@ -481,82 +473,93 @@ module _ {f c : Line} (pair : LinePair f c) where
 
   -- ---- as the code has them, the numbers of the coarse nodes in a list
 
-  module _ {nn : List ℕ} (numbers : nn ≡ nodesOf (endsOf f) (endsOf c) ++ replicate (64 - c .cells) 0) where
-    number-at : (m : ℕ) → m ≤ c .cells → getD nn m 0 ≡ nodeIn (endsOf f) (endsOf c) m
-    unfolding nodeIn
-    number-at m h =
-        ap (λ (ks : List ℕ). getD ks m 0) numbers
-        ∙ List·getD-append (nodesOf (endsOf f) (endsOf c)) (replicate (64 - c .cells) 0) 0 m
-        (omega (arith, length-nodes (endsOf f) (endsOf c), length-ends c (pair .coarse-held)))
+  -- those that are worked out from the lines
+  pub nodes-from : {nn : List ℕ} → nn ≡ nodesOf (endsOf f) (endsOf c) ++ replicate (64 - c .cells) 0 → NodesFrom (endsOf f) (endsOf c) (c .cells) nn 0
+  unfolding nodeIn
+  nodes-from {nn} e =
+      let n : length (nodesOf (endsOf f) (endsOf c)) ≡ c .cells + 1 = length-nodes (endsOf f) (endsOf c) ∙ length-ends c (pair .coarse-held) in
+      record {
+        room = omega (arith, ap length e, length-append (nodesOf (endsOf f) (endsOf c)) (replicate (64 - c .cells) 0));
+        each-is = λ m h.
+            let o : 0 + m ≡ m = omega arith in
+            rw (o, e) (List·getD-append (nodesOf (endsOf f) (endsOf c)) (replicate (64 - c .cells) 0) 0 m (omega arith));
+      }
 
-    pub number-most : (m : ℕ) → m ≤ c .cells → getD nn m 0 ≤ f .cells
-    number-most m h = rw (number-at m h) (pair .ended m h)
+  module _ {nn : List ℕ} {o : ℕ} (numbers : NodesFrom (endsOf f) (endsOf c) (c .cells) nn o) where
+    -- the number of node m, at place i
+    number-at : (m : ℕ) {i : ℕ} → i ≡ o + m → m ≤ c .cells → getD nn i 0 ≡ nodeIn (endsOf f) (endsOf c) m
+    number-at m e h = rw e (numbers .each-is m h)
 
-    pub number-below : (m : ℕ) → m < c .cells → getD nn m 0 < f .cells
-    number-below m h = rw (number-at m (omega arith)) (pair .nested m h)
+    pub number-most : (m : ℕ) {i : ℕ} → i ≡ o + m → m ≤ c .cells → getD nn i 0 ≤ f .cells
+    number-most m e h = rw (number-at m e h) (pair .ended m h)
+
+    pub number-below : (m : ℕ) {i : ℕ} → i ≡ o + m → m < c .cells → getD nn i 0 < f .cells
+    number-below m e h = rw (number-at m e (omega arith)) (pair .nested m h)
 
     -- what the walk asks for
-    pub walk-ready : (i j : ℕ) → i < j → j ≤ c .cells
-        → (1 ≤ getD nn i 0 + 1) × (getD nn i 0 + 1 ≤ f .cells) × (getD (c .ends) j 0 ≤ getD (f .ends) (f .cells) 0) × (getD (c .ends) j 0 - getD (c .ends) i 0 ≤ 256)
-    walk-ready i j h k = (omega arith, omega (arith, number-below i (omega arith)), coarse-most j k, width-most i j h k .1)
+    pub walk-ready : (m j : ℕ) {i : ℕ} → i ≡ o + m → m < j → j ≤ c .cells
+        → (1 ≤ getD nn i 0 + 1) × (getD nn i 0 + 1 ≤ f .cells) × (getD (c .ends) j 0 ≤ getD (f .ends) (f .cells) 0) × (getD (c .ends) j 0 - getD (c .ends) m 0 ≤ 256)
+    walk-ready m j e h k = (omega arith, omega (arith, number-below m e (omega arith)), coarse-most j k, width-most m j h k .1)
 
     -- a fine node behind coarse node m lies no lower
-    pub upper-place : (m q : ℕ) → m < c .cells → getD nn m 0 + 1 ≤ q → q < getD nn (m + 1) 0 → getD (c .ends) m 0 ≤ getD (f .ends) q 0
+    pub upper-place : (m q : ℕ) → m < c .cells → getD nn (o + m) 0 + 1 ≤ q → q < getD nn (o + m + 1) 0 → getD (c .ends) m 0 ≤ getD (f .ends) q 0
     unfolding nodeIn
     upper-place m q h a b =
         let es = endsOf f in
         let e : length es ≡ f .cells + 1 = length-ends f (pair .fine-held) in
         let k : ℕ = before (getD (endsOf c) m 0) es in
-        let n : getD nn m 0 ≡ k = number-at m (omega arith) ∙ nodes-at es (endsOf c) m (omega (arith, length-ends c (pair .coarse-held))) in
-        let r : getD (endsOf c) m 0 ≤ getD es k 0 = before-reached (getD (endsOf c) m 0) es (omega (arith, number-below m h)) in
-        let up : getD es k 0 < getD es q 0 = rises-below es (pair .fine-rises) k q (omega arith) (omega (arith, number-most (m + 1) (omega arith))) in
-        omega (arith, ends-at c m (omega arith), ends-at f q (omega (arith, number-most (m + 1) (omega arith))))
+        let n : getD nn (o + m) 0 ≡ k = number-at m refl (omega arith) ∙ nodes-at es (endsOf c) m (omega (arith, length-ends c (pair .coarse-held))) in
+        let r : getD (endsOf c) m 0 ≤ getD es k 0 = before-reached (getD (endsOf c) m 0) es (omega (arith, number-below m refl h)) in
+        let t : getD nn (o + m + 1) 0 ≤ f .cells = number-most (m + 1) (omega arith) (omega arith) in
+        let up : getD es k 0 < getD es q 0 = rises-below es (pair .fine-rises) k q (omega arith) (omega arith) in
+        omega (arith, ends-at c m (omega arith), ends-at f q (omega arith))
 
     module _ {ns ns′ : List ℕ} {ws ws′ : List Float} {from r : ℕ} where
-      pub lower-around : (wall : Bool) (m : ℕ) → m ≡ 0 → wall ≡ false
-          → HatsLaid ns ws from (walk (endsOf f) (getD (c .ends) (c .cells) 0) (getD (c .ends) (c .cells) 0 - getD (c .ends) (c .cells - 1) 0) (f .cells) (getD nn (c .cells - 1) 0 + 1)) ns′ ws′ r
+      pub lower-around : (wall : Bool) (m : ℕ) {i : ℕ} → i ≡ o + (c .cells - 1) → m ≡ 0 → wall ≡ false
+          → HatsLaid ns ws from (walk (endsOf f) (getD (c .ends) (c .cells) 0) (getD (c .ends) (c .cells) 0 - getD (c .ends) (c .cells - 1) 0) (f .cells) (getD nn i 0 + 1)) ns′ ws′ r
           → HatsLaid ns ws from (lowerHats wall (endsOf f) (endsOf c) m) ns′ ws′ r
-      lower-around wall m e p w = rw (p, ← lower-first m e, ← number-at (c .cells - 1) (omega arith)) w
+      lower-around wall m d e p w = rw (p, ← lower-first m e, ← number-at (c .cells - 1) d (omega arith)) w
 
-      pub lower-inside : (wall : Bool) (m : ℕ) → m < c .cells → (m ≡ 0 → ⊥)
-          → HatsLaid ns ws from (walk (endsOf f) (getD (c .ends) m 0) (getD (c .ends) m 0 - getD (c .ends) (m - 1) 0) (f .cells) (getD nn (m - 1) 0 + 1)) ns′ ws′ r
+      pub lower-inside : (wall : Bool) (m : ℕ) {i : ℕ} → i ≡ o + (m - 1) → m < c .cells → (m ≡ 0 → ⊥)
+          → HatsLaid ns ws from (walk (endsOf f) (getD (c .ends) m 0) (getD (c .ends) m 0 - getD (c .ends) (m - 1) 0) (f .cells) (getD nn i 0 + 1)) ns′ ws′ r
           → HatsLaid ns ws from (lowerHats wall (endsOf f) (endsOf c) m) ns′ ws′ r
-      lower-inside wall m h e w = rw (← lower-later wall m h e, ← number-at (m - 1) (omega arith)) w
+      lower-inside wall m d h e w = rw (← lower-later wall m h e, ← number-at (m - 1) d (omega arith)) w
 
     -- the nodes below, the node, the nodes above
     pub around-laid : {ns ns₁ ns₂ ns₃ : List ℕ} {ws ws₁ ws₂ ws₃ : List Float} {from k k₁ r : ℕ} (wall : Bool) (m : ℕ) → m < c .cells
         → HatsLaid ns ws from (lowerHats wall (endsOf f) (endsOf c) m) ns₁ ws₁ k
-        → HatsLaid ns₁ ws₁ k (record { node = getD nn m 0; weight = oneF } ∷ []) ns₂ ws₂ k₁
-        → HatsLaid ns₂ ws₂ k₁ (tabulate (hatAbove (endsOf f) (getD (c .ends) m 0) (getD (c .ends) (m + 1) 0 - getD (c .ends) m 0)) (getD nn (m + 1) 0 - (getD nn m 0 + 1)) (getD nn m 0 + 1)) ns₃ ws₃ r
+        → HatsLaid ns₁ ws₁ k (record { node = getD nn (o + m) 0; weight = oneF } ∷ []) ns₂ ws₂ k₁
+        → HatsLaid ns₂ ws₂ k₁ (tabulate (hatAbove (endsOf f) (getD (c .ends) m 0) (getD (c .ends) (m + 1) 0 - getD (c .ends) m 0)) (getD nn (o + m + 1) 0 - (getD nn (o + m) 0 + 1)) (getD nn (o + m) 0 + 1)) ns₃ ws₃ r
         → HatsLaid ns ws from (around wall (endsOf f) (endsOf c) m) ns₃ ws₃ r
     unfolding around
     around-laid wall m h p q u =
+        let d : o + m + 1 ≡ o + (m + 1) = omega arith in
         hats-append p
-        (hats-append (rw (number-at m (omega arith)) at q)
-        (hats-as (rw (number-at m (omega arith), number-at (m + 1) (omega arith)) at u) (upper-is m h)))
+        (hats-append (rw (number-at m refl (omega arith)) at q)
+        (hats-as (rw (number-at m refl (omega arith), number-at (m + 1) d (omega arith)) at u) (upper-is m h)))
 
 -- ---- the lists of an axis: node m has the 128 places of block 64 a + m
 
 -- a block that is not laid over stays as it is
 module _ {ns ns′ : List ℕ} {ws ws′ : List Float} {b r : ℕ} {hs : List Hat} (p : HatsLaid ns ws (128 * b) hs ns′ ws′ r) (few : length hs ≤ 127) (d q : ℕ) where
-  block-node : (d ≡ b → ⊥) → q < 128 → getD ns′ (128 * d + q) 0 ≡ getD ns (128 * d + q) 0
+  pub block-node : (d ≡ b → ⊥) → q < 128 → getD ns′ (128 * d + q) 0 ≡ getD ns (128 * d + q) 0
   block-node e h =
       ap (λ (ks : List ℕ). getD ks (128 * d + q) 0) (p .nodes)
       ∙ laid-apart ns (128 * b) (hatNodes hs) (128 * d + q) 0 (λ i c o. e (omega (arith, nodes-long hs)))
 
-  block-weight : (d ≡ b → ⊥) → q < 128 → getD ws′ (128 * d + q) nan ≡ getD ws (128 * d + q) nan
+  pub block-weight : (d ≡ b → ⊥) → q < 128 → getD ws′ (128 * d + q) nan ≡ getD ws (128 * d + q) nan
   block-weight e h =
       ap (λ (vs : List Float). getD vs (128 * d + q) nan) (p .weights)
       ∙ laid-apart ws (128 * b) (hatWeights hs) (128 * d + q) nan (λ i c o. e (omega (arith, weights-long hs)))
 
 -- a block that is laid over
-block-read : {ns ns′ : List ℕ} {ws ws′ : List Float} {r : ℕ} {hs : List Hat} (b : ℕ) → HatsLaid ns ws (128 * b) hs ns′ ws′ r → length hs ≤ 127
+pub block-read : {ns ns′ : List ℕ} {ws ws′ : List Float} {r : ℕ} {hs : List Hat} (b : ℕ) → HatsLaid ns ws (128 * b) hs ns′ ws′ r → length hs ≤ 127
     → 128 * b + 128 ≤ length ns → 128 * b + 128 ≤ length ws → hatsIn ns′ ws′ (128 * b) (length hs) ≡ hs
 block-read {ns} {ns′} {ws} {ws′} {r} {hs} b p few a c =
     (λ i. hatsIn (p .nodes i) (p .weights i) (128 * b) (length hs)) ∙ hats-read ns ws (128 * b) hs (omega arith) (omega arith)
 
 -- a block is the same in two pairs of lists
-block-same : (ns ns′ : List ℕ) (ws ws′ : List Float) (b n : ℕ) → n ≤ 127 → ((q : ℕ) → q < 128 → getD ns′ (128 * b + q) 0 ≡ getD ns (128 * b + q) 0)
+pub block-same : (ns ns′ : List ℕ) (ws ws′ : List Float) (b n : ℕ) → n ≤ 127 → ((q : ℕ) → q < 128 → getD ns′ (128 * b + q) 0 ≡ getD ns (128 * b + q) 0)
     → ((q : ℕ) → q < 128 → getD ws′ (128 * b + q) nan ≡ getD ws (128 * b + q) nan) → hatsIn ns′ ws′ (128 * b) n ≡ hatsIn ns ws (128 * b) n
 block-same ns ns′ ws ws′ b n few p q =
     hats-agree ns ns′ ws ws′ (128 * b) n
@@ -700,12 +703,11 @@ record AxisWhole (t : TwoLevels) (ns : List ℕ) (ws : List Float) (ks : List �
 axis-whole : {t : TwoLevels} {ns : List ℕ} {ws : List Float} {ks : List ℕ} {a : ℕ} {f c : Line} {wall : Bool} → LinePair f c
     → wall ≡ isWall (edgesOf (t .base) a) → endsOf f ≡ fineLine t a → endsOf c ≡ coarseLine t a
     → AxisDone wall (endsOf f) (endsOf c) a (c .cells) ns ws ks → AxisWhole t ns ws ks a
-unfolding fineCells coarseCells
 axis-whole {t} {ns} {ws} {ks} {a} {f} {c} {wall} pair w e d p =
     let n : c .cells ≡ length (coarseLine t a) - 1 = sym (ends-cells (pair .coarse-held)) ∙ ap (λ (es : List ℕ). length es - 1) d in
     record {
-      done = rw (← n, ← w, ← e, ← d) p;
-      inside = λ m q h k. rw (← e) (done-in pair (omega arith) p m q (rw (← n) at h) k);
+      done = rw (coarseCells-is t a, ← n, ← w, ← e, ← d) p;
+      inside = λ m q h k. rw (fineCells-is t a, ← e) (done-in pair (omega arith) p m q (rw (coarseCells-is t a, ← n) at h) k);
     }
 
 hats-whole : {t : TwoLevels} {ns : List ℕ} {ws : List Float} {ks : List ℕ} → (length ns ≡ 24576) × (length ws ≡ 24576) × (length ks ≡ 192)
@@ -722,27 +724,33 @@ hats-whole long each =
     }
 
 -- the hats of each axis, laid one axis behind another
-pub hats-three : {l : Medium} {fine coarse : Three} {wx wy wz : Bool} {ns ns₁ ns₂ ns₃ : List ℕ} {ws ws₁ ws₂ ws₃ : List Float} {ks ks₁ ks₂ ks₃ : List ℕ}
+pub hats-three : {l : FullLattice} {fine coarse : Three} {wx wy wz : Bool} {ns ns₁ ns₂ ns₃ : List ℕ} {ws ws₁ ws₂ ws₃ : List Float} {ks ks₁ ks₂ ks₃ : List ℕ}
     → PairedLines l fine coarse → (length ns ≡ 24576) × (length ws ≡ 24576) × (length ks ≡ 192)
     → wx ≡ isWall (l .x) → wy ≡ isWall (l .y) → wz ≡ isWall (l .z)
     → AxisHats wx (endsOf (fine .x)) (endsOf (coarse .x)) 0 (coarse .x .cells) ns ws ks ns₁ ws₁ ks₁
     → AxisHats wy (endsOf (fine .y)) (endsOf (coarse .y)) 1 (coarse .y .cells) ns₁ ws₁ ks₁ ns₂ ws₂ ks₂
     → AxisHats wz (endsOf (fine .z)) (endsOf (coarse .z)) 2 (coarse .z .cells) ns₂ ws₂ ks₂ ns₃ ws₃ ks₃
     → Hats (twoOf l fine coarse) ns₃ ws₃ ks₃
-unfolding twoOf edgesOf fineLine coarseLine axis3
 hats-three {l} {fine} {coarse} {wx} {wy} {wz} {ns₃ = ns₃} {ws₃ = ws₃} {ks₃ = ks₃} p long ex ey ez x y z =
     hats-whole
     (axis-long z (axis-long y (axis-long x long)))
     (low3 (AxisWhole (twoOf l fine coarse) ns₃ ws₃ ks₃)
-    (axis-whole (p .x-pair) ex refl refl (axis-kept (p .x-pair .coarse-held .most) (omega arith) z (axis-kept (p .x-pair .coarse-held .most) (omega arith) y (done-of x))))
-    (axis-whole (p .y-pair) ey refl refl (axis-kept (p .y-pair .coarse-held .most) (omega arith) z (done-of y)))
-    (axis-whole (p .z-pair) ez refl refl (done-of z)))
+    (axis-whole (p .x-pair) (ex ∙ wall 0 (edgesOf-0 l)) (fines 0 (linesIn-0 fine)) (coarses 0 (linesIn-0 coarse))
+    (axis-kept (p .x-pair .coarse-held .most) (omega arith) z (axis-kept (p .x-pair .coarse-held .most) (omega arith) y (done-of x))))
+    (axis-whole (p .y-pair) (ey ∙ wall 1 (edgesOf-1 l)) (fines 1 (linesIn-1 fine)) (coarses 1 (linesIn-1 coarse))
+    (axis-kept (p .y-pair .coarse-held .most) (omega arith) z (done-of y)))
+    (axis-whole (p .z-pair) (ez ∙ wall 2 (edgesOf-2 l)) (fines 2 (linesIn-2 fine)) (coarses 2 (linesIn-2 coarse)) (done-of z)))
+  where
+    wall : {e : Edges} (a : ℕ) → edgesOf l a ≡ e → isWall e ≡ isWall (edgesOf (twoOf l fine coarse .base) a)
+    wall a e = rw (two-base l fine coarse, e)
+
+    fines : {es : List ℕ} (a : ℕ) → linesIn fine a ≡ es → es ≡ fineLine (twoOf l fine coarse) a
+    fines a e = sym (two-fine l fine coarse a ∙ e)
+
+    coarses : {es : List ℕ} (a : ℕ) → linesIn coarse a ≡ es → es ≡ coarseLine (twoOf l fine coarse) a
+    coarses a e = sym (two-coarse l fine coarse a ∙ e)
 
 -- ---- the lines of neighbouring levels
-
-cells-packed : (es : List ℕ) → packed es .cells ≡ length es - 1
-unfolding packed
-cells-packed es = refl
 
 -- the last end that a record holds
 last-packed : (n : ℕ) (es : List ℕ) → LineOver n es → getD (packed es .ends) (packed es .cells) 0 ≡ 2 * n
@@ -768,12 +776,16 @@ pair-of x t n es h fine coarse =
     }
 
 -- the lines of levels L and L + 1 of a lattice
-pub pairs-at : (l : Medium) → Limits (l .grid) → (L : ℕ) → PairedLines l (threeAt l L) (threeAt l (suc L))
-unfolding threeAt lineAt
+pub pairs-at : (l : FullLattice) → Limits (l .grid) → (L : ℕ) → PairedLines l (threeAt l L) (threeAt l (suc L))
 pairs-at l h L =
     record {
       paired = paired-at l L h;
-      x-pair = pair-of (acrossMap l 0) (target L) (nOf (l .grid) 0) (lineAt l 0 L) (n-most h 0) (line-over l h 0 L) (line-over l h 0 (suc L));
-      y-pair = pair-of (acrossMap l 1) (target L) (nOf (l .grid) 1) (lineAt l 1 L) (n-most h 1) (line-over l h 1 L) (line-over l h 1 (suc L));
-      z-pair = pair-of (acrossMap l 2) (target L) (nOf (l .grid) 2) (lineAt l 2 L) (n-most h 2) (line-over l h 2 L) (line-over l h 2 (suc L));
+      x-pair = rw (threeAt-is l L, threeAt-is l (suc L)) (lines 0);
+      y-pair = rw (threeAt-is l L, threeAt-is l (suc L)) (lines 1);
+      z-pair = rw (threeAt-is l L, threeAt-is l (suc L)) (lines 2);
     }
+  where
+    lines : (a : ℕ) → LinePair (packed (lineAt l a L)) (packed (lineAt l a (suc L)))
+    lines a =
+        rw (lineAt-suc l a L)
+        (pair-of (acrossMap l a) (target L) (nOf (l .grid) a) (lineAt l a L) (n-most h a) (line-over l h a L) (rw (lineAt-suc l a L) at (line-over l h a (suc L))))

@@ -12,7 +12,8 @@ use Rattle.operators.specs.Relation.{Rel, after, Spot, Within, Times, af
 use Rattle.operators.specs.Pattern.{Role, along, across, roleOf, nameOf, nameAt, rel, Pattern, SpotEdge, spotEdge}
 use Rattle.operators.specs.Base.{liveAt, follows, baseOf}
 use Rattle.operators.specs.Relations0.{ahead, back, curlH, curlE, grad, div, cells, curlHCube, curlECube, gradCube, divCube, Free, ByFace, Stencil}
-use Rattle.operators.proofs.RelationLaws.{and-both, both-and, after-by, by-after, product, either-of, or-left, or-right}
+use Rattle.operators.proofs.RelationLaws.{and-both, both-and, after-by, by-after, product}
+use Rattle.numbers.proofs.Laws.{either-of, or-left, or-right}
 use Rattle.operators.proofs.Sound.{ladder}
 
 -- Bools

@@ -9,12 +9,12 @@ use mathlib.Core.List.{List}
 use native.Mathlib.Omega.{arith}
 use native.Mathlib.Decide.{ℕ-discrete, decLt}
 use borrow.Author.Tests.{lt-ltb, le-ltb, eq-eqb, ne-eqb}
-use lib.ListN.{length, getD, replicate, length-replicate, getD-replicate}
+use lib.ListN.{length, getD, replicate, length-replicate}
 use lib.IntN.{pos}
-use lib.Ieee.{Float, binary64, ofInt, nan}
+use lib.Ieee.{Float, binary64, ofInt}
 use Rattle.numbers.specs.declared.C64.{C64}
 use Rattle.numbers.specs.Complex.{mulF, divF, zeroF, zeroNumber, noNumber, difference, realTimes}
-use Rattle.numbers.specs.Places.{places, numberAt, setNumber, foundAt}
+use Rattle.numbers.specs.Places.{numberAt, setNumber, foundAt}
 use Rattle.numbers.proofs.Laws.{length-setNumber, number-same, number-other, found-held}
 use Rattle.lattice.specs.declared.grid.Grid3d.{Grid3d}
 use Rattle.lattice.specs.declared.lattice.Edges.{Edges}
@@ -22,17 +22,22 @@ use Rattle.lattice.specs.declared.lattice.Edges.the-variants.{Pml, Bloch}
 use Rattle.lattice.specs.declared.lattice.Lattice.{Lattice}
 use Rattle.lattice.specs.declared.levels.Three.{Three}
 use Rattle.lattice.specs.declared.line.Line.{Line}
-use Rattle.lattice.specs.Grid.{axis3, nOf, stepOf, Limits}
-use Rattle.lattice.specs.Lattice.{Medium, medium, halfNo, edgesOf}
+use Rattle.lattice.specs.Grid.{nOf, stepOf, Limits}
+use Rattle.lattice.specs.Lattice.{FullLattice, fullLattice, halfNo, edgesOf}
 use Rattle.lattice.specs.Levels.{lineAt, threeAt}
-use Rattle.lattice.specs.Line.{packed, endsOf, placeOf, Rises, LineOver, Held}
+use Rattle.lattice.specs.Line.{packed, endsOf, placeOf, LineOver, Held}
+use Rattle.numbers.specs.Lists.{Rises}
 use Rattle.lattice.specs.Stretched.{acrossMap, alongMap}
 use Rattle.lattice.proofs.GridLaws.{n-most}
 use Rattle.lattice.proofs.LevelLaws.{line-over}
-use Rattle.lattice.proofs.LineLaws.{ends-packed, length-ends, ends-at, rises-below, over-held}
-use Rattle.lattice.proofs.TabulateLaws.{tabulate-agree}
-use Rattle.weights.specs.Interpolate.{whole}
+use Rattle.lattice.proofs.LineLaws.{ends-packed, length-ends, ends-at, over-held}
+use Rattle.numbers.proofs.ListLaws.{rises-below}
+use Rattle.numbers.proofs.TabulateLaws.{tabulate-agree}
 use Rattle.weights.specs.Tables.{linesIn, HeldThree}
+use Rattle.numbers.proofs.Equations.{places-is}
+use Rattle.lattice.proofs.Equations.{edgesOf-0, edgesOf-1, edgesOf-2, placeOf-is, threeAt-is}
+use Rattle.weights.proofs.Equations.{whole-is, linesIn-0, linesIn-1, linesIn-2}
+use Rattle.numbers.proofs.ElementLaws.{zeros-at}
 use Rattle.operators.specs.Rediscretized.{twoF, cellsOn, coarseStep, unitOf, mapped, centre, cellLength, firstWidth, nodeWidth, halfOn, nodeOn, halfStretch, nodeStretch, rediscretizedGrid, rediscretizedLattice, latticeOn, AxisLaid, Tame}
 
 -- ---- steps
@@ -40,8 +45,8 @@ use Rattle.operators.specs.Rediscretized.{twoF, cellsOn, coarseStep, uni
 module _ (g : Grid3d) (a n : ℕ) where
   pub step-is : {cells : ℕ} {s : Float} → cells ≡ nOf g a → s ≡ stepOf g a
       → divF (mulF s (ofInt binary64 (pos cells))) (ofInt binary64 (pos n)) ≡ coarseStep g a n
-  unfolding coarseStep whole
-  step-is e p = λ i. divF (mulF (p i) (ofInt binary64 (pos (e i)))) (ofInt binary64 (pos n))
+  unfolding coarseStep
+  step-is e p = rw (whole-is (nOf g a), whole-is n) (λ i. divF (mulF (p i) (ofInt binary64 (pos (e i)))) (ofInt binary64 (pos n)))
 
   pub unit-is : {s t : Float} → s ≡ stepOf g a → t ≡ coarseStep g a n → divF s t ≡ unitOf g a n
   unfolding unitOf
@@ -65,11 +70,11 @@ module _ {e : Edges} (x : List C64) where
   unfolding mapped centre
   first-wall es p o q s = rw (p, ← o, ← q) s
 
-  pub first-period : (f : Line) {first last : ℕ} {re im : Float} → Held f → e ≡ Bloch re im → first ≡ placeOf (endsOf f) 0 true
+  pub first-period : (f : Line) {first last : ℕ} {phase : C64} → Held f → e ≡ Bloch phase → first ≡ placeOf (endsOf f) 0 true
       → last ≡ placeOf (endsOf f) (f .cells - 1) true
       → _≡_ {A = C64} (record { re = divF (ofInt binary64 (pos (first + getD (f .ends) (f .cells) 0 - last))) twoF; im = zeroF }) (firstWidth e x (endsOf f))
-  unfolding centre whole
-  first-period f h p o q = rw (p, cells-on f h, ends-at f (f .cells) (omega arith), ← o, ← q)
+  unfolding centre
+  first-period f h p o q = rw (p, cells-on f h, ends-at f (f .cells) (omega arith), ← o, ← q, whole-is)
 
 module _ (e : Edges) (x : List C64) (es : List ℕ) (m : ℕ) where
   pub width-first : m ≡ 0 → firstWidth e x es ≡ nodeWidth e x es m
@@ -113,19 +118,17 @@ module _ {node half : ℕ → C64} {a m : ℕ} {xs ys zs ws : List Float} {v w :
       ∙ number-other ys (64 * a + m) k v n
 
   node-here : numberAt ws (64 * a + m) ≡ node m
-  unfolding places
   node-here =
       ap (λ (us : List Float). numberAt us (64 * a + m)) o
       ∙ number-other zs (192 + 64 * a + m) (64 * a + m) w (omega arith)
       ∙ ap (λ (us : List Float). numberAt us (64 * a + m)) z
-      ∙ number-same ys (64 * a + m) v (omega (arith, l .long))
+      ∙ number-same ys (64 * a + m) v (omega (arith, l .long, places-is ys))
       ∙ p
 
   half-here : numberAt ws (192 + 64 * a + m) ≡ half m
-  unfolding places
   half-here =
       ap (λ (us : List Float). numberAt us (192 + 64 * a + m)) o
-      ∙ number-same zs (192 + 64 * a + m) w (omega (arith, length-both))
+      ∙ number-same zs (192 + 64 * a + m) w (omega (arith, length-both, places-is zs))
       ∙ q
 
   -- a turn: the stretch at node m and the one behind it
@@ -178,21 +181,14 @@ pub record Stretching (N H : ℕ → C64) (A : ℕ) (xs : List Float) : Type 0 w
   pub halves-done : (k : ℕ) → k < 64 * A → k < 192 → numberAt xs (192 + k) ≡ H k
   pub halves-bare : (k : ℕ) → 64 * A ≤ k → k < 192 → numberAt xs (192 + k) ≡ zeroNumber
 
-zeros-at : (k : ℕ) → k < 384 → numberAt (replicate 768 zeroF) k ≡ zeroNumber
-unfolding numberAt zeroNumber
-zeros-at k h =
-    let p : getD (replicate 768 zeroF) (2 * k) nan ≡ zeroF = getD-replicate 768 (2 * k) zeroF nan (omega arith) in
-    let q : getD (replicate 768 zeroF) (2 * k + 1) nan ≡ zeroF = getD-replicate 768 (2 * k + 1) zeroF nan (omega arith) in
-    λ i. record { re = p i; im = q i }
-
 pub stretching-start : {N H : ℕ → C64} → Stretching N H 0 (replicate 768 zeroF)
 stretching-start =
     record {
       long = length-replicate 768 zeroF;
       nodes-done = λ k h b. absurd (omega arith);
-      nodes-bare = λ k h b. zeros-at k (omega arith);
+      nodes-bare = λ k h b. zeros-at 768 k (omega arith);
       halves-done = λ k h b. absurd (omega arith);
-      halves-bare = λ k h b. zeros-at (192 + k) (omega arith);
+      halves-bare = λ k h b. zeros-at 768 (192 + k) (omega arith);
     }
 
 -- the numbers of axis a in a list of all axes: n of f, and zero up to 64
@@ -252,7 +248,7 @@ axis-of f line a few = record { inside = inside; beyond = beyond }
         let r : (64 * a + m) % 64 ≡ m = omega arith in
         rw (d, r, le-ltb m (cellsOn (line a)) h)
 
-module _ (l : Medium) (line : ℕ → List ℕ) (a : ℕ) (few : cellsOn (line a) ≤ 64) where
+module _ (l : FullLattice) (line : ℕ → List ℕ) (a : ℕ) (few : cellsOn (line a) ≤ 64) where
   node-axis : Axis (nodeOn (l .grid) (edgesOf l a) (alongMap l a) (line a) a) (nodeStretch l line) a (cellsOn (line a))
   unfolding nodeStretch
   node-axis = axis-of (λ (b m : ℕ). nodeOn (l .grid) (edgesOf l b) (alongMap l b) (line b) b m) line a few
@@ -263,8 +259,8 @@ module _ (l : Medium) (line : ℕ → List ℕ) (a : ℕ) (few : cellsOn (line a
 
 -- all three axes have been laid over zeros
 module _ (l : Lattice) (st : List Float) (s : Three) (held : HeldThree s) where
-  abbrev below : Medium
-  below = medium l st
+  abbrev below : FullLattice
+  below = fullLattice l st
 
   abbrev Laid : ℕ → List Float → Type 0
   Laid A xs = Stretching (nodeStretch below (linesIn s)) (halfStretch below (linesIn s)) A xs
@@ -279,9 +275,9 @@ module _ (l : Lattice) (st : List Float) (s : Three) (held : HeldThree s) where
       rw (← p, ← c, ← d, n, q) x in
       stretching-turn t y k (node-axis below (linesIn s) a k) (half-axis below (linesIn s) a k)
 
-  laid-medium : {xs : List Float} → Laid 3 xs → medium (latticeOn l s) xs ≡ rediscretizedLattice below (linesIn s)
+  laid-fullLattice : {xs : List Float} → Laid 3 xs → fullLattice (latticeOn l s) xs ≡ rediscretizedLattice below (linesIn s)
   unfolding latticeOn rediscretizedLattice
-  laid-medium {xs} t =
+  laid-fullLattice {xs} t =
       λ i.
       record {
         grid = rediscretizedGrid (l .grid) (linesIn s);
@@ -307,13 +303,12 @@ module _ (l : Lattice) (st : List Float) (s : Three) (held : HeldThree s) where
       → AxisLaid (nodeOn (l .grid) (l .y) alongy (endsOf (s .y)) 1) (halfOn (l .grid) acrossy (endsOf (s .y)) 1) 1 (s .y .cells) xs ys
       → acrossz ≡ acrossMap below 2 → alongz ≡ alongMap below 2
       → AxisLaid (nodeOn (l .grid) (l .z) alongz (endsOf (s .z)) 2) (halfOn (l .grid) acrossz (endsOf (s .z)) 2) 2 (s .z .cells) ys zs
-      → (length zs ≡ 768) × (medium (latticeOn l s) zs ≡ rediscretizedLattice below (linesIn s))
-  unfolding linesIn edgesOf axis3
+      → (length zs ≡ 768) × (fullLattice (latticeOn l s) zs ≡ rediscretizedLattice below (linesIn s))
   stretches-are ax bx ay by az bz a b x c d y e f z =
-      let one : Laid 1 _ = laid-axis 0 ax bx (held .x-held) refl refl a b x stretching-start in
-      let two : Laid 2 _ = laid-axis 1 ay by (held .y-held) refl refl c d y one in
-      let all : Laid 3 _ = laid-axis 2 az bz (held .z-held) refl refl e f z two in
-      (all .long, laid-medium all)
+      let one : Laid 1 _ = laid-axis 0 ax bx (held .x-held) (linesIn-0 s) (sym (edgesOf-0 below)) a b x stretching-start in
+      let two : Laid 2 _ = laid-axis 1 ay by (held .y-held) (linesIn-1 s) (sym (edgesOf-1 below)) c d y one in
+      let all : Laid 3 _ = laid-axis 2 az bz (held .z-held) (linesIn-2 s) (sym (edgesOf-2 below)) e f z two in
+      (all .long, laid-fullLattice all)
 
 -- the record itself
 pub lattice-is : (l : Lattice) (s : Three) {dx dy dz : Float} → HeldThree s → dx ≡ coarseStep (l .grid) 0 (s .x .cells) → dy ≡ coarseStep (l .grid) 1 (s .y .cells)
@@ -328,22 +323,34 @@ pub lattice-is : (l : Lattice) (s : Three) {dx dy dz : Float} → HeldThree s �
       shift = l .shift;
     })
     (latticeOn l s)
-unfolding latticeOn rediscretizedGrid linesIn axis3
-lattice-is l s h p q r = rw (p, q, r, cells-on (s .x) (h .x-held), cells-on (s .y) (h .y-held), cells-on (s .z) (h .z-held))
+unfolding latticeOn rediscretizedGrid
+lattice-is l s h p q r =
+    rw (linesIn-0 s, linesIn-1 s, linesIn-2 s, p, q, r, cells-on (s .x) (h .x-held), cells-on (s .y) (h .y-held), cells-on (s .z) (h .z-held))
 
 -- ---- the lines of the levels
 
 pub tame-held : (f : Line) → Held f → Rises (endsOf f) → Tame f
-unfolding placeOf
 tame-held f h r =
     record {
       back =
           let e : f .cells - 1 + 1 ≡ f .cells = omega (arith, h .some) in
           let l : getD (endsOf f) (f .cells - 1 + 1) 0 ≡ getD (f .ends) (f .cells) 0 =
           ap (λ (i : ℕ). getD (endsOf f) i 0) e ∙ ends-at f (f .cells) (omega arith) in
-          omega (arith, rises-below (endsOf f) r (f .cells - 1) (f .cells - 1 + 1) (omega arith) (omega (arith, length-ends f h)));
+          omega (
+            arith,
+            placeOf-is (endsOf f) (f .cells - 1) true,
+            placeOf-is (endsOf f) 0 true,
+            rises-below (endsOf f) r (f .cells - 1) (f .cells - 1 + 1) (omega arith) (omega (arith, length-ends f h)),
+          );
       centres = λ m b.
-          omega (arith, ends-at f m (omega arith), ends-at f (m + 1) (omega arith), h .low m (omega arith), h .low (m + 1) (omega arith));
+          omega (
+            arith,
+            placeOf-is (endsOf f) m true,
+            ends-at f m (omega arith),
+            ends-at f (m + 1) (omega arith),
+            h .low m (omega arith),
+            h .low (m + 1) (omega arith),
+          );
     }
 
 tame-over : (n : ℕ) (es : List ℕ) → n ≤ 64 → LineOver n es → Tame (packed es)
@@ -351,9 +358,8 @@ tame-over n es h p =
     let e : endsOf (packed es) ≡ es = ends-packed es (omega (arith, p .some)) (p .most) in
     tame-held (packed es) (over-held n es h p) (rw e (p .rises))
 
-pub tame-at : (l : Medium) → Limits (l .grid) → (L : ℕ) → (Tame (threeAt l L .x)) × (Tame (threeAt l L .y)) × (Tame (threeAt l L .z))
-unfolding threeAt
-tame-at l h L = (tame 0, tame 1, tame 2)
+pub tame-at : (l : FullLattice) → Limits (l .grid) → (L : ℕ) → (Tame (threeAt l L .x)) × (Tame (threeAt l L .y)) × (Tame (threeAt l L .z))
+tame-at l h L = rw (threeAt-is l L) (tame 0, tame 1, tame 2)
   where
     tame : (a : ℕ) → Tame (packed (lineAt l a L))
     tame a = tame-over (nOf (l .grid) a) (lineAt l a L) (n-most h a) (line-over l h a L)

@@ -1,11 +1,11 @@
 -- The rediscretized operator of the next level in lists: its permittivities are laid first, then its rows are worked out from the lattice of its lines
 -- and from the permittivities in the list.
 -- Assumes nothing.
-use Prim.Native.Nat.{ℕ, zero, suc, _+_, _*_, _/_, _<_, _≤_, _^_}
+use Prim.Native.Nat.{ℕ, suc, _+_, _*_, _/_, _<_, _≤_, _^_}
 use native.Mathlib.Omega.{arith}
-use mathlib.Core.Path.{_≡_, refl, sym, ap, _∙_, subst}
-use mathlib.Core.Bool.{Bool, true, false, _&&_, cond}
-use mathlib.Core.List.{List, [], _∷_}
+use mathlib.Core.Path.{_≡_, sym, ap, _∙_, subst}
+use mathlib.Core.Bool.{Bool, true, false, _&&_}
+use mathlib.Core.List.{List}
 use lib.ListN.{length}
 use lib.Ieee.{Float}
 use Rattle.numbers.specs.declared.C64.{C64}
@@ -14,29 +14,27 @@ use Rattle.numbers.proofs.Laws.{and-true, and-false}
 use Rattle.lattice.specs.declared.grid.Grid3d.{Grid3d}
 use Rattle.lattice.specs.declared.lattice.Lattice.{Lattice}
 use Rattle.lattice.specs.declared.levels.Three.{Three}
-use Rattle.lattice.specs.Curls.{gradientOf}
-use Rattle.lattice.specs.Grid.{axis3, cellsOf, unknownsOf, Limits}
-use Rattle.lattice.specs.Lattice.{Medium, medium, tabulate}
+use Rattle.lattice.specs.Grid.{unknownsOf, Limits}
+use Rattle.lattice.specs.Lattice.{FullLattice, fullLattice}
+use Rattle.numbers.specs.Lists.{tabulate, rows, laid, laidNumbers, allFinite, readFrom}
 use Rattle.lattice.specs.Levels.{cellsAt, threeAt}
-use Rattle.lattice.specs.Neighbours.{isFixed}
-use Rattle.lattice.specs.Rows.{freeOf, freeColumns, freeColumnsOf, rowReads}
-use Rattle.lattice.specs.Terms.{Term, columnsOf, each}
-use Rattle.lattice.proofs.RowLaws.{low-divergence, low-gradient}
-use Rattle.lattice.proofs.TabulateLaws.{length-tabulate, tabulate-agree, tabulate-at-0}
-use Rattle.lattice.proofs.TermLaws as Terms
-use Rattle.weights.specs.Lists.{rows, laid, laidNumbers, allFinite}
-use Rattle.weights.specs.Tables.{linesIn, readFrom, ChainRoom}
-use Rattle.weights.specs.Transfer.{numbersOf, Turned}
-use Rattle.weights.specs.TwoLevels.{TwoLevels, gridWith, fineGrid, coarseGrid, twoAt, twoOf}
-use Rattle.weights.proofs.EachLaws.{All, none, more, all-append}
-use Rattle.weights.proofs.ListLaws.{laid-numbers-length, laid-numbers-at, rows-agree, starts-agree, start-agree}
-use Rattle.weights.proofs.PairLaws.{line-ends, two-at}
+use Rattle.numbers.specs.Terms.{Term, columnsOf, numbersOf, LaidRows}
+use Rattle.numbers.proofs.TabulateLaws.{length-tabulate, tabulate-agree, tabulate-at-0}
+use Rattle.weights.specs.Tables.{linesIn, ChainRoom}
+use Rattle.weights.specs.TwoLevels.{TwoLevels, fineGrid, coarseGrid, twoAt, twoOf}
+use Rattle.numbers.proofs.ListLaws.{laid-numbers-length, laid-numbers-at, rows-agree, starts-agree, start-agree}
+use Rattle.weights.proofs.PairLaws.{two-at}
 use Rattle.weights.proofs.WholeLaws.{all-in}
 use Rattle.operators.specs.Averaged.{averagedEps, PairedLines}
 use Rattle.operators.specs.LevelLists.{edgesOn}
 use Rattle.operators.specs.Levels.{gridAt, lineOn, latticeAt}
 use Rattle.operators.specs.Rediscretized.{cellsOn, halfStretch, nodeStretch, rediscretizedGrid, rediscretizedLattice, latticeOn, Tame}
 use Rattle.operators.specs.Stencil.{stencilRow, stencilReads}
+use Rattle.numbers.proofs.Equations.{readFrom-is}
+use Rattle.lattice.proofs.Equations.{cellsAt-is}
+use Rattle.weights.proofs.Equations.{gridWith-is}
+use Rattle.lattice.proofs.PlaceLaws.{reads-low, unknowns-same}
+use Rattle.weights.proofs.LevelLines.{three-lines}
 use Rattle.operators.proofs.ForwardPattern.{grid-fine, grid-coarse}
 use Rattle.operators.proofs.HatLaws.{pairs-at}
 use Rattle.operators.proofs.LevelListLaws.{lattice-limits}
@@ -45,37 +43,15 @@ use Rattle.operators.proofs.StencilLaws.{stencil-local}
 
 -- ---- the permittivities that a row reads are those of the lattice's edges
 
-free-low : (l : Medium) {b : ℕ} {ts : List Term} → Terms.Low b ts → All (λ c. c < b) (freeOf l (columnsOf ts))
-unfolding freeOf columnsOf
-free-low l Terms.none = none
-free-low l {b} (Terms.more {t = t} {ts = ts} p u) = go (isFixed l (t .column)) (free-low l u)
-  where
-    go : (fixed : Bool) → All (λ c. c < b) (freeOf l (columnsOf ts)) → All (λ c. c < b) (cond fixed (freeOf l (columnsOf ts)) (t .column ∷ freeOf l (columnsOf ts)))
-    go true v = v
-    go false v = more p v
-
-each-low : {b u : ℕ} (f : Term → List ℕ) → ((t : Term) → t .column < b → All (λ c. c < u) (f t)) → {ts : List Term} → Terms.Low b ts → All (λ c. c < u) (each f ts)
-unfolding each
-each-low f h Terms.none = none
-each-low f h (Terms.more {t = t} p v) = all-append (h t p) (each-low f h v)
-
-module _ (l : Medium) (limits : Limits (l .grid)) (r : ℕ) (low : r < unknownsOf (l .grid)) where
-  reads-low : All (λ c. c < unknownsOf (l .grid)) (rowReads l r)
-  unfolding rowReads freeColumnsOf freeColumns
-  reads-low = go (isFixed l r)
-    where
-      go : (fixed : Bool) → All (λ c. c < unknownsOf (l .grid)) (cond fixed [] (r ∷ each (freeColumnsOf l) (gradientOf l r)))
-      go true = none
-      go false = more low (each-low (freeColumnsOf l) (λ t b. free-low l (low-divergence l limits (t .column) b)) (low-gradient l limits r low))
-
-  stencil-agree : (f g : ℕ → C64) → ((c : ℕ) → c < unknownsOf (l .grid) → f c ≡ g c) → stencilRow l f r ≡ stencilRow l g r
+module _ (l : FullLattice) (limits : Limits (l .grid)) (r : ℕ) (low : r < unknownsOf (l .grid)) where
+  pub stencil-agree : (f g : ℕ → C64) → ((c : ℕ) → c < unknownsOf (l .grid) → f c ≡ g c) → stencilRow l f r ≡ stencilRow l g r
   unfolding stencilReads
-  stencil-agree f g h = stencil-local l f g r (λ c m. h c (all-in reads-low c m))
+  stencil-agree f g h = stencil-local l f g r (λ c m. h c (all-in (reads-low l limits r low) c m))
 
 -- ---- the lattice of a level, from its lines
 
 -- only the lines of three axes are looked at
-lattice-agree : (l : Medium) (s t : ℕ → List ℕ) → ((a : ℕ) → a < 3 → s a ≡ t a) → rediscretizedLattice l s ≡ rediscretizedLattice l t
+lattice-agree : (l : FullLattice) (s t : ℕ → List ℕ) → ((a : ℕ) → a < 3 → s a ≡ t a) → rediscretizedLattice l s ≡ rediscretizedLattice l t
 unfolding rediscretizedLattice
 lattice-agree l s t h =
     λ i.
@@ -99,27 +75,24 @@ lattice-agree l s t h =
     halves : (k : ℕ) → k < 192 → halfStretch l s k ≡ halfStretch l t k
     halves k b = unfold halfStretch in rw (h (k / 64) (omega arith))
 
-module _ (l : Medium) (limits : Limits (l .grid)) (L : ℕ) where
-  lines-are : (a : ℕ) → a < 3 → linesIn (threeAt l L) a ≡ lineOn l L a
-  unfolding linesIn threeAt axis3 lineOn
-  lines-are zero h = line-ends l limits 0 L
-  lines-are (suc zero) h = line-ends l limits 1 L
-  lines-are (suc (suc zero)) h = line-ends l limits 2 L
-  lines-are (suc (suc (suc a))) h = absurd (omega arith)
-
-lattice-edges : (l : Medium) (L : ℕ) → unknownsOf (latticeAt l (suc L) .grid) ≡ edgesOn l (suc L)
-unfolding latticeAt rediscretizedLattice rediscretizedGrid lineOn cellsOn gridAt gridWith cellsAt unknownsOf cellsOf
-lattice-edges l L = refl
+pub lattice-edges : (l : FullLattice) (L : ℕ) → unknownsOf (latticeAt l (suc L) .grid) ≡ edgesOn l (suc L)
+unfolding latticeAt rediscretizedLattice rediscretizedGrid lineOn cellsOn gridAt
+lattice-edges l L =
+    let e = gridWith-is (l .grid) (cellsAt l 0 (suc L)) (cellsAt l 1 (suc L)) (cellsAt l 2 (suc L)) in
+    unknowns-same (latticeAt l (suc L) .grid) (gridAt l (suc L))
+    (sym (ap (λ (g : Grid3d). g .nx) e ∙ cellsAt-is l 0 (suc L)))
+    (sym (ap (λ (g : Grid3d). g .ny) e ∙ cellsAt-is l 1 (suc L)))
+    (sym (ap (λ (g : Grid3d). g .nz) e ∙ cellsAt-is l 2 (suc L)))
 
 -- the lattice that is worked out, with its stretches
-pub own-lattice : (l : Lattice) (m : Medium) (s : Three) (xs : List Float) {k : Lattice} → k ≡ latticeOn l s
-    → medium (latticeOn l s) xs ≡ rediscretizedLattice m (linesIn s) → medium k xs ≡ rediscretizedLattice m (linesIn s)
-own-lattice l m s xs e d = ap (λ (k : Lattice). medium k xs) e ∙ d
+pub own-lattice : (l : Lattice) (m : FullLattice) (s : Three) (xs : List Float) {k : Lattice} → k ≡ latticeOn l s
+    → fullLattice (latticeOn l s) xs ≡ rediscretizedLattice m (linesIn s) → fullLattice k xs ≡ rediscretizedLattice m (linesIn s)
+own-lattice l m s xs e d = ap (λ (k : Lattice). fullLattice k xs) e ∙ d
 
 -- ---- rows that agree have been laid as well
 
 module _ {row other : ℕ → List Term} {n : ℕ} (h : (r : ℕ) → r < n → row r ≡ other r) where
-  turned-agree : {ss ss′ cs cs′ : List ℕ} {xs xs′ : List Float} {s k : ℕ} → Turned row n ss s cs xs k ss′ cs′ xs′ → Turned other n ss s cs xs k ss′ cs′ xs′
+  pub turned-agree : {ss ss′ cs cs′ : List ℕ} {xs xs′ : List Float} {s k : ℕ} → LaidRows row n ss s cs xs k ss′ cs′ xs′ → LaidRows other n ss s cs xs k ss′ cs′ xs′
   turned-agree {ss} {ss′} {cs} {cs′} {xs} {xs′} {s} {k} u =
       let p : rows row n ≡ rows other n = rows-agree row other n h in
       record {
@@ -130,7 +103,7 @@ module _ {row other : ℕ → List Term} {n : ℕ} (h : (r : ℕ) → r < n → 
 
 -- ---- the next level, from the lines of both
 
-module _ (l : Medium) (L : ℕ) (limits : Limits (l .grid)) {fine coarse : Three} (lines : (fine ≡ threeAt l L) × (coarse ≡ threeAt l (suc L))) where
+module _ (l : FullLattice) (L : ℕ) (limits : Limits (l .grid)) {fine coarse : Three} (lines : (fine ≡ threeAt l L) × (coarse ≡ threeAt l (suc L))) where
   pub lines-nested : PairedLines l fine coarse
   lines-nested = rw (lines .0, lines .1) (pairs-at l limits L)
 
@@ -146,12 +119,12 @@ module _ (l : Medium) (L : ℕ) (limits : Limits (l .grid)) {fine coarse : Three
   coarse-edges : unknownsOf (coarseGrid (twoOf l fine coarse)) ≡ edgesOn l (suc L)
   coarse-edges = ap (λ (t : TwoLevels). unknownsOf (coarseGrid t)) two-is ∙ ap unknownsOf (sym (grid-coarse l L))
 
-  lattice-is : {m : Medium} → m ≡ rediscretizedLattice l (linesIn coarse) → m ≡ latticeAt l (suc L)
-  unfolding latticeAt
+  lattice-is : {m : FullLattice} → m ≡ rediscretizedLattice l (linesIn coarse) → m ≡ latticeAt l (suc L)
+  unfolding latticeAt lineOn
   lattice-is e =
       e
       ∙ ap (λ (s : Three). rediscretizedLattice l (linesIn s)) (lines .1)
-      ∙ lattice-agree l (linesIn (threeAt l (suc L))) (lineOn l (suc L)) (lines-are l limits (suc L))
+      ∙ lattice-agree l (linesIn (threeAt l (suc L))) (lineOn l (suc L)) (λ a b. three-lines l limits (suc L) a b)
 
   module _ {from to : ℕ} {xs : List Float} (room : ChainRoom (edgesOn l L) (edgesOn l (suc L)) from to xs) where
     pub room-nested : ChainRoom (unknownsOf (fineGrid (twoOf l fine coarse))) (unknownsOf (coarseGrid (twoOf l fine coarse))) from to xs
@@ -179,32 +152,31 @@ module _ (l : Medium) (L : ℕ) (limits : Limits (l .grid)) {fine coarse : Three
       averaged-laid = e ∙ ap (laidNumbers xs to) list-is
 
       read-is : (c : ℕ) → c < n → readFrom ys to c ≡ eps c
-      unfolding readFrom
       read-is c h =
           let k : length (tabulate eps n 0) ≡ n = length-tabulate eps n 0 in
-          rw averaged-laid
+          rw (readFrom-is ys to c, averaged-laid)
           (laid-numbers-at xs to (tabulate eps n 0) c noNumber (omega (arith, k)) (omega (arith, k, room .room)) ∙ tabulate-at-0 eps n c noNumber h)
 
       -- the lattice m is worked out from the lines
-      module _ {m : Medium} (own : m ≡ rediscretizedLattice l (linesIn coarse)) where
+      module _ {m : FullLattice} (own : m ≡ rediscretizedLattice l (linesIn coarse)) where
         edges-are : unknownsOf (m .grid) ≡ n
-        edges-are = ap (λ (m : Medium). unknownsOf (m .grid)) (lattice-is own) ∙ lattice-edges l L
+        edges-are = ap (λ (m : FullLattice). unknownsOf (m .grid)) (lattice-is own) ∙ lattice-edges l L
 
         pub lattice-asked : Limits (m .grid) × ((to ≤ 2 ^ 32) × (2 * (to + unknownsOf (m .grid)) ≤ length ys))
         lattice-asked = (
-          subst (λ (m : Medium). Limits (m .grid)) (sym (lattice-is own)) (lattice-limits l limits (suc L)),
+          subst (λ (m : FullLattice). Limits (m .grid)) (sym (lattice-is own)) (lattice-limits l limits (suc L)),
           (room .low, omega (arith, edges-are, room .room, ap length averaged-laid, laid-numbers-length xs to (tabulate eps n 0))),
         )
 
         row-is : (r : ℕ) → r < n → stencilRow m (readFrom ys to) r ≡ stencilRow (latticeAt l (suc L)) eps r
         row-is r h =
             let d : unknownsOf (latticeAt l (suc L) .grid) ≡ n = lattice-edges l L in
-            ap (λ (m : Medium). stencilRow m (readFrom ys to) r) (lattice-is own)
+            ap (λ (m : FullLattice). stencilRow m (readFrom ys to) r) (lattice-is own)
             ∙ stencil-agree (latticeAt l (suc L)) (lattice-limits l limits (suc L)) r (omega arith) (readFrom ys to) eps (λ c b. read-is c (omega arith))
 
         pub rediscretized-turned : {ss ss′ cs cs′ : List ℕ} {vs vs′ : List Float} {s k : ℕ}
-            → Turned (stencilRow m (readFrom ys to)) (unknownsOf (m .grid)) ss s cs vs k ss′ cs′ vs′
-            → Turned (stencilRow (latticeAt l (suc L)) eps) n ss s cs vs k ss′ cs′ vs′
+            → LaidRows (stencilRow m (readFrom ys to)) (unknownsOf (m .grid)) ss s cs vs k ss′ cs′ vs′
+            → LaidRows (stencilRow (latticeAt l (suc L)) eps) n ss s cs vs k ss′ cs′ vs′
         rediscretized-turned u = turned-agree row-is (rw edges-are at u)
 
         pub rediscretized-finite : {b : Bool} → b ≡ allFinite (numbersOf (rows (stencilRow m (readFrom ys to)) (unknownsOf (m .grid))))

@@ -13,17 +13,6 @@ pub and-both : (a b : Bool) → (a && b) ≡ true → (a ≡ true) × (b ≡ tru
 and-both true b h = (refl, h)
 and-both false b h = absurd (false≢true h)
 
-pub either-of : (a b : Bool) → (a || b) ≡ true → (a ≡ true) ⊎ (b ≡ true)
-either-of true b h = inl h
-either-of false b h = inr h
-
-pub or-left : {a : Bool} (b : Bool) → a ≡ true → (a || b) ≡ true
-or-left b h = rw h
-
-pub or-right : (a : Bool) {b : Bool} → b ≡ true → (a || b) ≡ true
-or-right true h = refl
-or-right false h = h
-
 pub both-and : {a b : Bool} → a ≡ true → b ≡ true → (a && b) ≡ true
 both-and h g = rw (h, g)
 

@@ -1,81 +1,26 @@
--- The columns of collected rows and of Galerkin's: they rise, and they are those of the terms.
+-- The columns of Galerkin's rows: they rise, and they are those of the terms.
 -- Assumes nothing.
-use Prim.Native.Nat.{ℕ, suc, _<_}
-use mathlib.Core.Path.{_≡_, refl, sym, ap, _∙_, subst}
+use Prim.Native.Nat.{ℕ}
+use mathlib.Core.Path.{_≡_, refl, sym, subst}
 use mathlib.Core.Logic.{_⊎_, inl, inr, ⊎-elim}
-use mathlib.Core.Bool.{Bool, true, false, _||_, cond}
-use mathlib.Core.List.{List, [], _∷_}
-use native.Mathlib.Omega.{arith}
-use borrow.Author.Tests.{eq-eqb, eqb-true}
-use lib.Dec.{eqb}
+use mathlib.Core.Bool.{Bool, true, false, cond}
+use mathlib.Core.List.{List, []}
 use Rattle.numbers.specs.declared.C64.{C64}
 use Rattle.numbers.specs.Complex.{oneNumber}
-use Rattle.lattice.specs.Line.{Rises}
-use Rattle.lattice.specs.Terms.{Term, columnsOf, each}
-use Rattle.weights.specs.Transfer.{contains}
-use Rattle.weights.proofs.EachLaws.{columns-each}
-use Rattle.operators.specs.Collect.{inserted, collected, atFirst, fromZero}
+use Rattle.numbers.specs.Lists.{Rises, each, contains}
+use Rattle.numbers.specs.Terms.{Term, columnsOf}
+use Rattle.numbers.specs.Collect.{inserted, collected, atFirst, fromZero}
+use Rattle.numbers.proofs.EachLaws.{columns-each}
+use Rattle.numbers.proofs.MemberLaws.{In, contains-in, each-in, in-each}
+use Rattle.numbers.proofs.CollectLaws.{inserted-rises, collected-rises}
 use Rattle.operators.specs.Galerkin.{forwardTerm, forwardTerms, fineTerms, galerkinTerms, withDiagonal, galerkinRow}
-use Rattle.operators.proofs.ColumnSorted.{In, Span}
-use Rattle.operators.proofs.CollectLaws.{inserted-columns-same, collected-columns-same, inserted-rises, collected-rises}
-use Rattle.operators.proofs.RelationLaws.{either-of, or-left, or-right}
-use Rattle.operators.proofs.ListedPlaces.{contains-in, in-contains}
-use Rattle.operators.proofs.MemberLaws.{each-in, in-each}
-
--- ---- collected terms
-
-module _ (first : C64 → C64) where
-  -- a term is put into a row
-  inserted-in : (t : Term) (us : List Term) (c : ℕ) → In c (columnsOf (inserted first t us)) → (c ≡ t .column) ⊎ In c (columnsOf us)
-  inserted-in t us c i =
-      ⊎-elim (λ h. inr (contains-in c (columnsOf us) h)) (λ h. inl (sym (eqb-true (t .column) c h)))
-      (either-of (contains c (columnsOf us)) (eqb (t .column) c)
-      (sym (inserted-columns-same first c t us) ∙ in-contains c (columnsOf (inserted first t us)) i))
-
-  in-inserted : (t : Term) (us : List Term) (c : ℕ) → (c ≡ t .column) ⊎ In c (columnsOf us) → In c (columnsOf (inserted first t us))
-  in-inserted t us c h = contains-in c (columnsOf (inserted first t us)) (inserted-columns-same first c t us ∙ go h)
-    where
-      go : (c ≡ t .column) ⊎ In c (columnsOf us) → (contains c (columnsOf us) || eqb (t .column) c) ≡ true
-      go (inl e) = or-right (contains c (columnsOf us)) (eq-eqb (t .column) c (sym e))
-      go (inr i) = or-left (eqb (t .column) c) (in-contains c (columnsOf us) i)
-
-  -- terms are put into a row one after another
-  collected-in : (row ts : List Term) (c : ℕ) → In c (columnsOf (collected first row ts)) → In c (columnsOf row) ⊎ In c (columnsOf ts)
-  collected-in row ts c i =
-      ⊎-elim (λ h. inl (contains-in c (columnsOf row) h)) (λ h. inr (contains-in c (columnsOf ts) h))
-      (either-of (contains c (columnsOf row)) (contains c (columnsOf ts))
-      (sym (collected-columns-same first c row ts) ∙ in-contains c (columnsOf (collected first row ts)) i))
-
-  in-collected : (row ts : List Term) (c : ℕ) → In c (columnsOf row) ⊎ In c (columnsOf ts) → In c (columnsOf (collected first row ts))
-  in-collected row ts c h = contains-in c (columnsOf (collected first row ts)) (collected-columns-same first c row ts ∙ go h)
-    where
-      go : In c (columnsOf row) ⊎ In c (columnsOf ts) → (contains c (columnsOf row) || contains c (columnsOf ts)) ≡ true
-      go (inl i) = or-left (contains c (columnsOf ts)) (in-contains c (columnsOf row) i)
-      go (inr i) = or-right (contains c (columnsOf row)) (in-contains c (columnsOf ts) i)
-
--- what rises and lies below e
-pub rises-span : (l : List ℕ) (e : ℕ) → Rises l → ((c : ℕ) → In c l → c < e) → Span 0 e l
-unfolding Rises
-rises-span [] e r h = omega arith
-rises-span (v ∷ l) e r h = (omega arith, go v l r (λ c i. h c i))
-  where
-    go : (v : ℕ) (l : List ℕ) → Rises (v ∷ l) → ((c : ℕ) → In c (v ∷ l) → c < e) → Span (suc v) e l
-    go v [] r h = h v (inl refl)
-    go v (u ∷ l) r h = (r .0, go u l (r .1) (λ c i. h c (inr i)))
-
--- ---- Galerkin's rows
-
--- one of each
-each-one : (l : List ℕ) → each (λ (d : ℕ). d ∷ []) l ≡ l
-unfolding each
-each-one [] = refl
-each-one (d ∷ l) = ap (λ (k : List ℕ). d ∷ k) (each-one l)
+use Rattle.numbers.proofs.LoopLaws.{columns-one}
+use Rattle.numbers.proofs.GatheredLaws.{columns-kept, inserted-in, in-inserted, gathered-in, in-gathered, rises-span}
 
 module _ (A P : ℕ → List Term) where
   forward-columns : (w : C64) (a : Term) → columnsOf (forwardTerms P w a) ≡ columnsOf (P (a .column))
-  unfolding forwardTerms forwardTerm columnsOf
-  forward-columns w a =
-      columns-each (forwardTerm w (a .number)) (λ (d : ℕ). d ∷ []) (λ u. refl) (P (a .column)) refl ∙ each-one (columnsOf (P (a .column)))
+  unfolding forwardTerms forwardTerm
+  forward-columns w a = columns-kept (forwardTerm w (a .number)) (λ u. columns-one _) (P (a .column))
 
   abbrev columnsFrom : ℕ → List ℕ
   columnsFrom r = each (λ (k : ℕ). columnsOf (P k)) (columnsOf (A r))
@@ -116,11 +61,11 @@ module _ (A P : ℕ → List Term) where
 
     -- the columns of row c are c and those that it touches
     pub row-via : (d : ℕ) → In d (columnsOf (galerkinRow A P R c)) → (d ≡ c) ⊎ Via (R c) d
-    unfolding galerkinRow withDiagonal columnsOf
+    unfolding galerkinRow withDiagonal
     row-via d = go (contains c (columnsOf touched))
       where
         old : In d (columnsOf touched) → (d ≡ c) ⊎ Via (R c) d
-        old i = ⊎-elim (λ n. absurd n) (λ j. inr (terms-via (R c) d j)) (collected-in fromZero [] (galerkinTerms A P (R c)) d i)
+        old i = inr (terms-via (R c) d (gathered-in fromZero (galerkinTerms A P (R c)) d i))
 
         go : (b : Bool) → In d (columnsOf (cond b touched (inserted atFirst one touched))) → (d ≡ c) ⊎ Via (R c) d
         go true i = old i
@@ -131,7 +76,7 @@ module _ (A P : ℕ → List Term) where
     via-row d h = go (contains c (columnsOf touched)) refl h
       where
         old : Via (R c) d → In d (columnsOf touched)
-        old i = in-collected fromZero [] (galerkinTerms A P (R c)) d (inr (via-terms (R c) d i))
+        old i = in-gathered fromZero (galerkinTerms A P (R c)) d (via-terms (R c) d i)
 
         go : (b : Bool) → contains c (columnsOf touched) ≡ b → (d ≡ c) ⊎ Via (R c) d → In d (columnsOf (cond b touched (inserted atFirst one touched)))
         go true q (inl e) = subst (λ (k : ℕ). In k (columnsOf touched)) (sym e) (contains-in c (columnsOf touched) q)

@@ -6,34 +6,23 @@ use native.Mathlib.Omega.{arith}
 use mathlib.Core.Logic.{_⊎_, inl, inr}
 use mathlib.Core.Path.{_≡_, refl, sym, ap, _∙_}
 use mathlib.Core.Bool.{Bool, true, false, cond}
-use mathlib.Core.List.{List, [], _∷_, _++_}
+use mathlib.Core.List.{List, [], _∷_}
 use lib.ListN.{length, getD}
+use Rattle.numbers.specs.declared.C64.{C64}
 use Rattle.numbers.specs.Complex.{oneNumber, zeroNumber}
-use Rattle.lattice.specs.Line.{Rises}
-use Rattle.lattice.specs.Terms.{Term, columnsOf, each}
-use Rattle.weights.specs.Transfer.{contains, weightsAt, turnedRow}
-use Rattle.weights.proofs.EachLaws.{length-columns}
-use Rattle.weights.proofs.Tutorial.{first-condition, turned-low, none-named}
-use Rattle.operators.specs.Collect.{inserted, collected, atFirst, fromZero, summedAt}
-use Rattle.operators.specs.Galerkin.{
-  forwardTerm,
-  forwardTerms,
-  fineTerms,
-  galerkinTerms,
-  withDiagonal,
-  galerkinRow,
-  fineRowsRead,
-  columnsAt,
-  forwardRowsRead,
-  Met,
-  MetAll,
-}
-use Rattle.operators.proofs.ColumnSorted.{In}
-use Rattle.operators.proofs.ListedPlaces.{contains-in, in-contains}
-use Rattle.operators.proofs.MemberLaws.{in-each}
+use Rattle.numbers.specs.Lists.{Rises, each, contains}
+use Rattle.numbers.specs.Terms.{Term, columnsOf, weightsAt}
+use Rattle.numbers.specs.Transpose.{turnedRow}
+use Rattle.numbers.proofs.Equations.{atFirst-is}
+use Rattle.numbers.proofs.EachLaws.{length-columns}
+use Rattle.numbers.proofs.Tutorial.{first-condition, turned-low, none-named}
+use Rattle.numbers.specs.Collect.{inserted, collected, atFirst, fromZero, summedAt}
+use Rattle.operators.specs.Galerkin.{forwardTerm, forwardTerms, fineTerms, galerkinTerms, withDiagonal, galerkinRow, fineRowsRead, columnsAt, forwardRowsRead, Met, MetAll}
+use Rattle.numbers.proofs.MemberLaws.{In, contains-in, in-contains, in-each}
+use Rattle.numbers.proofs.StoredLaws.{each-agree}
 use Rattle.operators.proofs.RowMembers.{Via, row-via, via-row}
-use Rattle.operators.proofs.CollectLaws.{inserted-rises, collected-rises}
-use Rattle.operators.proofs.CollectSums.{in-at, some, named-is, inserted-other, inserted-new, sum-at, sum-columns}
+use Rattle.numbers.proofs.CollectLaws.{inserted-rises, collected-rises}
+use Rattle.numbers.proofs.CollectSums.{in-at, some, named-is, inserted-other, inserted-new, sum-at, sum-columns}
 
 -- ---- the diagonal
 
@@ -99,12 +88,12 @@ module _ (A P R : ℕ → List Term) (c : ℕ) where
 
   -- an untouched diagonal is 1
   pub untouched : contains c (columnsOf (galerkinTerms A P (R c))) ≡ false → weightsAt c (galerkinRow A P R c) ≡ oneNumber ∷ []
-  unfolding galerkinRow atFirst
+  unfolding galerkinRow
   untouched h =
       let row : List Term = collected fromZero [] (galerkinTerms A P (R c)) in
       let e : contains c (columnsOf row) ≡ false = sum-columns c (galerkinTerms A P (R c)) ∙ h in
       ap (weightsAt c) (diagonal-missing c row e)
-      ∙ inserted-new atFirst (record { column = c; number = oneNumber }) row (none-named c row e)
+      ∙ (inserted-new atFirst (record { column = c; number = oneNumber }) row (none-named c row e) ∙ ap (λ (v : C64). v ∷ []) (atFirst-is oneNumber))
 
   -- a touched diagonal leaves the row of sums as it is
   pub touched : contains c (columnsOf (galerkinTerms A P (R c))) ≡ true → galerkinRow A P R c ≡ collected fromZero [] (galerkinTerms A P (R c))
@@ -112,16 +101,6 @@ module _ (A P R : ℕ → List Term) (c : ℕ) where
   touched h = diagonal-there c (collected fromZero [] (galerkinTerms A P (R c))) (sum-columns c (galerkinTerms A P (R c)) ∙ h)
 
 -- ---- which rows are read
-
-module _ {A : Type 0} (f g : Term → List A) where
-  -- what agrees for the columns of a list agrees for its terms
-  each-agree : (ts : List Term) → ((t : Term) → In (t .column) (columnsOf ts) → f t ≡ g t) → each f ts ≡ each g ts
-  unfolding each columnsOf
-  each-agree [] h = refl
-  each-agree (t ∷ ts) h =
-      let p : f t ≡ g t = h t (inl refl) in
-      let q : each f ts ≡ each g ts = each-agree ts (λ u o. h u (inr o)) in
-      λ i. p i ++ q i
 
 module _ (A A′ P P′ R R′ : ℕ → List Term) (c : ℕ) (turned : R c ≡ R′ c)
     (fine : (r : ℕ) → In r (fineRowsRead R c) → A r ≡ A′ r)

@@ -1,101 +1,81 @@
 -- The columns of an operator row from the lattice are the pattern of level 0.
 -- Assumes nothing.
-use Prim.Native.Nat.{ℕ, zero, suc, _+_, _*_, _<_}
+use Prim.Native.Nat.{ℕ, zero, suc, _+_, _*_, _<_, _≤_}
 use mathlib.Core.Path.{_≡_, refl, sym, _∙_, ap}
 use mathlib.Core.Logic.{inl, inr, ⊎-elim, _↔_}
 use mathlib.Core.Bool.{Bool, true, false, _||_, cond, false≢true, or-true}
 use mathlib.Core.List.{List, [], _∷_}
 use native.Mathlib.Omega.{arith}
-use native.Mathlib.Nat.{le-refl}
-use borrow.Author.Tests.{eqb-true, lt-ltb}
-use lib.Dec.{eqb}
+use borrow.Author.Tests.{lt-ltb}
 use lib.ListN.{getD}
 use lib.Ieee as Ieee
 use Rattle.numbers.specs.declared.C64.{C64}
 use Rattle.numbers.specs.Complex.{zeroF}
+use Rattle.numbers.specs.Lists.{contains}
+use Rattle.numbers.specs.Terms.{columnsOf}
+use Rattle.numbers.specs.Collect.{collected, atFirst}
+use Rattle.numbers.proofs.Equations.{columnsOf-nil, collected-nil, collected-cons, inserted-nil}
+use Rattle.numbers.proofs.MemberLaws.{In}
+use Rattle.numbers.proofs.CollectLaws.{none, collected-from}
 use Rattle.lattice.specs.declared.grid.Position.{Position}
-use Rattle.lattice.specs.Grid.{axis3, nOf, cellsOf, unknownsOf, indexOf, atOf, Limits, Inside}
-use Rattle.lattice.specs.Lattice.{Medium}
-use Rattle.lattice.specs.Line.{twice, finestEnds}
-use Rattle.lattice.specs.Levels.{lineAt, cellsAt}
+use Rattle.lattice.specs.Grid.{nOf, unknownsOf, indexOf, atOf, Limits, Inside}
+use Rattle.lattice.specs.Lattice.{FullLattice}
 use Rattle.lattice.specs.Neighbours.{fixedAt, isFixed}
-use Rattle.lattice.specs.Terms.{Term, columnsOf}
 use Rattle.lattice.specs.Rows.{rowInto}
 use Rattle.lattice.proofs.GridLaws.{at-inside, index-at}
-use Rattle.lattice.proofs.TabulateLaws.{length-tabulate}
-use Rattle.weights.specs.Transfer.{contains}
-use Rattle.operators.specs.Collect.{inserted, collected, atFirst}
+use Rattle.lattice.proofs.Equations.{nOf-0, nOf-1, nOf-2, cellsOf-is, indexOf-is, isFixed-is}
 use Rattle.operators.specs.Stencil.{shiftNumber, shiftTerms, stencilRow}
 use Rattle.operators.specs.Pattern.{Role, Name, nameAt, Ladder, rel, Pattern, Row, Sound}
 use Rattle.operators.specs.Base.{liveAt}
-use Rattle.operators.specs.Columns.{number}
+use Rattle.operators.specs.Columns.{number, row}
 use Rattle.operators.specs.Numbered.{picksOf, rowColumns, Right}
 use Rattle.operators.specs.Levels.{isBloch, ladderOf, spotOf, patternRow, Base}
-use Rattle.operators.proofs.RelationLaws.{either-of, or-left}
+use Rattle.numbers.proofs.LoopLaws.{columns-one}
+use Rattle.numbers.proofs.GatheredLaws.{collected-in, in-collected, gathered-in, in-gathered, from-span}
+use Rattle.lattice.proofs.ColumnLaws.{row-own, row-fixed, finest-cells}
 use Rattle.operators.proofs.Level0.{level0}
 use Rattle.operators.proofs.Sound.{dropped, ladder, base-same, base-near, base-live}
-use Rattle.operators.proofs.ColumnSorted.{In, Span}
 use Rattle.operators.proofs.ColumnWhole.{Column, row-only}
 use Rattle.operators.proofs.TableLevels.{right-picked}
 use Rattle.operators.proofs.BaseLaws.{based-right}
-use Rattle.operators.proofs.CollectLaws.{collected-columns-same, From, none, more, collected-from}
 use Rattle.operators.proofs.NeighbourSpots.{low3}
-use Rattle.operators.proofs.ListedPlaces.{contains-in, in-contains, Lists, lists-contain}
+use Rattle.operators.proofs.ListedPlaces.{Lists, lists-contain}
 use Rattle.operators.proofs.StencilRow.{Touched, within, placed, placed-inside, fixed-free, row-lists}
 
 -- ---- the collected row has the same columns
 
-module _ (l : Medium) (limits : Limits (l .grid)) (p : Position) (inside : Inside (l .grid) p) (f : ℕ → C64) where
+module _ (l : FullLattice) (limits : Limits (l .grid)) (p : Position) (inside : Inside (l .grid) p) (f : ℕ → C64) where
   abbrev own : ℕ
   own = indexOf (l .grid) p
 
   -- the shift is on the diagonal, which is there already
-  shift-there : (c : ℕ) → contains c (columnsOf (shiftTerms l f own)) ≡ true → contains c (columnsOf (rowInto l f own)) ≡ true
-  unfolding shiftTerms columnsOf contains
-  shift-there c = go (Ieee.eq (l .shift) zeroF || isFixed l own)
+  shift-in : (c : ℕ) → In c (columnsOf (shiftTerms l f own)) → In c (columnsOf (rowInto l f own))
+  unfolding shiftTerms
+  shift-in c = go (Ieee.eq (l .shift) zeroF || isFixed l own)
     where
-      diagonal : own ≡ c → contains c (columnsOf (rowInto l f own)) ≡ true
-      diagonal e = rw (← e) (in-contains own (columnsOf (rowInto l f own)) (row-lists l limits p inside f .back p inside (inl refl)))
-
-      go : (b : Bool) → contains c (columnsOf (cond b [] (record { column = own; number = shiftNumber l f own } ∷ []))) ≡ true → contains c (columnsOf (rowInto l f own)) ≡ true
-      go true h = absurd (false≢true h)
-      go false h = ⊎-elim (λ e. diagonal (eqb-true own c e)) (λ e. absurd (false≢true e)) (either-of (eqb own c) false h)
-
-  stencil-contains : (c : ℕ) → contains c (columnsOf (stencilRow l f own)) ≡ (contains c (columnsOf (rowInto l f own)) || contains c (columnsOf (shiftTerms l f own)))
-  unfolding stencilRow
-  stencil-contains c =
-      collected-columns-same atFirst c (collected atFirst [] (rowInto l f own)) (shiftTerms l f own)
-      ∙ ap (λ (b : Bool). b || contains c (columnsOf (shiftTerms l f own))) (bare c)
-    where
-      bare : (c : ℕ) → contains c (columnsOf (collected atFirst [] (rowInto l f own))) ≡ contains c (columnsOf (rowInto l f own))
-      bare c = unfold contains columnsOf in collected-columns-same atFirst c [] (rowInto l f own)
+      go : (b : Bool) → In c (columnsOf (cond b [] (record { column = own; number = shiftNumber l f own } ∷ []))) → In c (columnsOf (rowInto l f own))
+      go true i = absurd (rw columnsOf-nil at i)
+      go false i = ⊎-elim (λ e. rw e (row-own l f own)) (λ e. absurd e) (rw columns-one at i)
 
   pub stencil-lists : Lists l (Touched l p) (stencilRow l f own)
+  unfolding stencilRow
   stencil-lists =
       let u = row-lists l limits p inside f in
-      let ts = columnsOf (rowInto l f own) in
+      let bare = collected atFirst [] (rowInto l f own) in
       record {
-        there = λ c i. u .there c
-            (contains-in c ts
-            (⊎-elim (λ e. e) (shift-there c)
-            (either-of (contains c ts) (contains c (columnsOf (shiftTerms l f own))) (sym (stencil-contains c) ∙ in-contains c (columnsOf (stencilRow l f own)) i))));
+        there = λ c i. u .there c (⊎-elim (gathered-in atFirst (rowInto l f own) c) (shift-in c) (collected-in atFirst bare (shiftTerms l f own) c i));
         back = λ q a h.
             let c = indexOf (l .grid) q in
-            contains-in c (columnsOf (stencilRow l f own))
-            (stencil-contains c ∙ or-left (contains c (columnsOf (shiftTerms l f own))) (in-contains c ts (u .back q a h)));
+            in-collected atFirst bare (shiftTerms l f own) c (inl (in-gathered atFirst (rowInto l f own) c (u .back q a h)));
       }
 
 -- ---- the relations of level 0
 
-pub finest-cells : (l : Medium) (d : ℕ) → cellsAt l d 0 ≡ nOf (l .grid) d
-unfolding cellsAt lineAt finestEnds
-finest-cells l d = omega (arith, length-tabulate twice (nOf (l .grid) d + 1) 0)
-
 -- the levels' cells, and no weights
-abbrev bare : Medium → Ladder
+abbrev bare : FullLattice → Ladder
 bare l = ladder (λ L d. nOf (l .grid) d) (isBloch l) (λ L d r k i. false)
 
-module _ (l : Medium) (p q : Position) (inside : Inside (l .grid) p) (there : Inside (l .grid) q) where
+module _ (l : FullLattice) (p q : Position) (inside : Inside (l .grid) p) (there : Inside (l .grid) q) where
   pub touched-bare : Touched l p q ↔ Row (bare l) 0 (p .component) (q .component) (spotOf p) (spotOf q)
   unfolding Row
   touched-bare =
@@ -141,7 +121,7 @@ module _ (l : Medium) (p q : Position) (inside : Inside (l .grid) p) (there : In
   )
 
 -- the row's columns are those of the levels' own definition, at level 0
-pub stencil-in : (l : Medium) (p q : Position) (f : ℕ → C64) → Limits (l .grid) → Inside (l .grid) p → Inside (l .grid) q
+pub stencil-in : (l : FullLattice) (p q : Position) (f : ℕ → C64) → Limits (l .grid) → Inside (l .grid) p → Inside (l .grid) q
     → (contains (indexOf (l .grid) q) (columnsOf (stencilRow l f (indexOf (l .grid) p))) ≡ true)
     ↔ Row (ladderOf l) 0 (p .component) (q .component) (spotOf p) (spotOf q)
 stencil-in l p q f h a b =
@@ -151,22 +131,16 @@ stencil-in l p q f h a b =
 
 -- ---- the list
 
--- columns that rise lie in a span
-from-span : {b : ℕ} {ts : List Term} → From b ts → (e : ℕ) × Span b e (columnsOf ts)
-unfolding columnsOf
-from-span {b} none = (b, le-refl b)
-from-span (more h u) = let s = from-span u in (s .0, (h, s .1))
-
 -- with no weights, no place of a further level is live
 abbrev bareLive : (ℕ → Bool) → ℕ → ℕ → Role → ℕ → Bool
 bareLive bloch zero d r i = liveAt (bloch d) r i
 bareLive bloch (suc L) d r i = false
 
-bare-none : (l : Medium) (L d : ℕ) (r : Role) (k i : ℕ) → bare l .forward L d r k i ≡ true → ⊥
+bare-none : (l : FullLattice) (L d : ℕ) (r : Role) (k i : ℕ) → bare l .forward L d r k i ≡ true → ⊥
 unfolding dropped
 bare-none l L d r k i h = false≢true h
 
-abbrev bare-sound : (l : Medium) → Sound (bare l)
+abbrev bare-sound : (l : FullLattice) → Sound (bare l)
 bare-sound l =
     record {
       live = bareLive (isBloch l);
@@ -178,22 +152,22 @@ bare-sound l =
       only-live = λ d. base-live (nOf (l .grid) d) (isBloch l d);
     }
 
-bare-right : (l : Medium) (t : List ℕ) → Base l (l .grid) t → Right (bare l) 0 t
-unfolding nOf axis3
-bare-right l t h =
+bare-right : (l : FullLattice) → Limits (l .grid) → (t : List ℕ) → Base l (l .grid) t → Right (bare l) 0 t
+bare-right l limits t h =
     based-right (λ L d. nOf (l .grid) d) (isBloch l) (λ L d r k i. false)
     (l .grid .nx ∷ (l .grid .ny ∷ (l .grid .nz ∷ []))) (isBloch l 0 ∷ (isBloch l 1 ∷ (isBloch l 2 ∷ []))) t
-    (low3 (λ d. getD (l .grid .nx ∷ (l .grid .ny ∷ (l .grid .nz ∷ []))) d 0 ≡ nOf (l .grid) d) refl refl refl)
+    (low3 (λ d. getD (l .grid .nx ∷ (l .grid .ny ∷ (l .grid .nz ∷ []))) d 0 ≡ nOf (l .grid) d) (sym (nOf-0 (l .grid))) (sym (nOf-1 (l .grid))) (sym (nOf-2 (l .grid))))
     (low3 (λ d. getD (isBloch l 0 ∷ (isBloch l 1 ∷ (isBloch l 2 ∷ []))) d false ≡ isBloch l d) refl refl refl)
+    (low3 (λ d. getD (l .grid .nx ∷ (l .grid .ny ∷ (l .grid .nz ∷ []))) d 0 ≤ 64) (limits .x-most) (limits .y-most) (limits .z-most))
     h
 
 -- the number of an edge, both ways of writing it
-index-number : (l : Medium) (q : Position)
+index-number : (l : FullLattice) (q : Position)
     → indexOf (l .grid) q ≡ number (nOf (l .grid) 0) (nOf (l .grid) 1) (q .component * (nOf (l .grid) 0 * nOf (l .grid) 1 * nOf (l .grid) 2)) (q .k) (q .j) (q .i)
-unfolding indexOf number cellsOf nOf axis3
-index-number l q = omega arith
+unfolding number
+index-number l q = rw (indexOf-is (l .grid) q, cellsOf-is (l .grid), nOf-0 (l .grid), nOf-1 (l .grid), nOf-2 (l .grid)) (omega arith)
 
-module _ (l : Medium) (limits : Limits (l .grid)) (p : Position) (inside : Inside (l .grid) p) (f : ℕ → C64) where
+module _ (l : FullLattice) (limits : Limits (l .grid)) (p : Position) (inside : Inside (l .grid) p) (f : ℕ → C64) where
   -- the columns that are touched are those of the list
   columns-are : (c : ℕ) → In c (columnsOf (stencilRow l f (indexOf (l .grid) p))) ↔ Column (bare l) 0 (p .component) (spotOf p) c
   columns-are c = (
@@ -215,25 +189,28 @@ module _ (l : Medium) (limits : Limits (l .grid)) (p : Position) (inside : Insid
 
   free-columns : (t : List ℕ) → Base l (l .grid) t → fixedAt l p ≡ false
       → columnsOf (stencilRow l f (indexOf (l .grid) p)) ≡ rowColumns t (l .grid) false (indexOf (l .grid) p) p
-  unfolding rowColumns stencilRow nOf axis3
+  unfolding rowColumns stencilRow
   free-columns t base h =
       let M = bare l in
       let a = p .component in
       let s = spotOf p in
       let free = fixed-free l p h in
-      let right = bare-right l t base in
+      let right = bare-right l limits t base in
       let span = from-span (collected-from atFirst (shiftTerms l f (indexOf (l .grid) p)) (collected-from atFirst (rowInto l f (indexOf (l .grid) p)) none)) in
-      row-only M (bare-sound l) 0 a s (record { x = free .x; y = free .y; z = free .z })
-      (picksOf t a 0 (p .i) (p .j) (p .k)) (picksOf t a 1 (p .i) (p .j) (p .k)) (picksOf t a 2 (p .i) (p .j) (p .k))
+      let x = picksOf t a 0 (p .i) (p .j) (p .k) in
+      let y = picksOf t a 1 (p .i) (p .j) (p .k) in
+      let z = picksOf t a 2 (p .i) (p .j) (p .k) in
+      row-only M (bare-sound l) 0 a s (record { x = free .x; y = free .y; z = free .z }) x y z
       (right-picked M 0 t a 0 s right (within l p inside)) (right-picked M 0 t a 1 s right (within l p inside)) (right-picked M 0 t a 2 s right (within l p inside))
       0 (span .0) (columnsOf (stencilRow l f (indexOf (l .grid) p))) (span .1) columns-are
+      ∙ (λ i. row x y z (nOf-0 (l .grid) i) (nOf-1 (l .grid) i) (nOf-2 (l .grid) i))
 
 -- a row that is held fixed has its diagonal alone
-fixed-columns : (l : Medium) (f : ℕ → C64) (r : ℕ) → isFixed l r ≡ true → columnsOf (stencilRow l f r) ≡ r ∷ []
-unfolding stencilRow rowInto shiftTerms collected inserted columnsOf
-fixed-columns l f r h = rw (h, or-true (Ieee.eq (l .shift) zeroF))
+fixed-columns : (l : FullLattice) (f : ℕ → C64) (r : ℕ) → isFixed l r ≡ true → columnsOf (stencilRow l f r) ≡ r ∷ []
+unfolding stencilRow shiftTerms
+fixed-columns l f r h = rw (row-fixed l f r h, h, or-true (Ieee.eq (l .shift) zeroF), collected-nil, collected-cons, inserted-nil, collected-nil) (columns-one _)
 
-pub stencil-columns : (l : Medium) → Limits (l .grid) → (f : ℕ → C64) (t : List ℕ) → Base l (l .grid) t → (r : ℕ) → r < unknownsOf (l .grid)
+pub stencil-columns : (l : FullLattice) → Limits (l .grid) → (f : ℕ → C64) (t : List ℕ) → Base l (l .grid) t → (r : ℕ) → r < unknownsOf (l .grid)
     → columnsOf (stencilRow l f r) ≡ patternRow l (l .grid) t r
 unfolding patternRow
 stencil-columns l limits f t base r h = go (fixedAt l (atOf (l .grid) r)) refl
@@ -245,7 +222,7 @@ stencil-columns l limits f t base r h = go (fixedAt l (atOf (l .grid) r)) refl
     a = at-inside limits r h
 
     go : (b : Bool) → fixedAt l p ≡ b → columnsOf (stencilRow l f r) ≡ rowColumns t (l .grid) b r p
-    go true e = unfold rowColumns isFixed in fixed-columns l f r e
+    go true e = unfold rowColumns in fixed-columns l f r (isFixed-is l r ∙ e)
     go false e =
         let i : indexOf (l .grid) p ≡ r = index-at limits r h in
         rw i at (free-columns l limits p a f t base e)

@@ -3,86 +3,78 @@
 use Prim.Native.Nat.{ℕ, _<_}
 use mathlib.Core.Path.{_≡_, refl, sym, _∙_, ap}
 use mathlib.Core.Logic.{_⊎_, inl, inr, ⊎-elim, _↔_}
-use mathlib.Core.Bool.{Bool, true, false, not, _&&_, _||_, cond, false≢true}
-use mathlib.Core.List.{[], _∷_, _++_}
+use mathlib.Core.Bool.{Bool, true, false, not, cond, false≢true}
+use mathlib.Core.List.{List, [], _∷_, _++_}
 use native.Mathlib.Omega.{arith}
 use borrow.Author.Tests.{not-true}
 use lib.Dec.{eqb}
 use Rattle.numbers.specs.declared.C64.{C64}
-use Rattle.numbers.specs.Complex.{mulF, negF, oneF, oneNumber, product, negation, realOver, realTimes}
+use Rattle.numbers.specs.Lists.{each, contains}
+use Rattle.numbers.specs.Terms.{columnsOf}
 use Rattle.lattice.specs.declared.grid.Position.{Position}
-use Rattle.lattice.specs.Grid.{axis3, nOf, placeOn, indexOf, atOf, Limits, Inside}
-use Rattle.lattice.specs.Lattice.{Medium}
-use Rattle.lattice.specs.Terms.{Term, columnsOf}
-use Rattle.lattice.specs.Neighbours.{onWall, fixedAt, isFixed, isNodeFixed}
-use Rattle.lattice.specs.Curls as Curls
-use Rattle.lattice.specs.Rows.{faceTerm, faceTerms, curlCurl, nodeEps, nodeTerm, nodeTerms, gradDiv, rowInto}
-use Rattle.lattice.proofs.GridLaws.{at-index}
+use Rattle.lattice.specs.Grid.{nOf, placeOn, indexOf, Limits, Inside}
+use Rattle.lattice.specs.Lattice.{FullLattice}
+use Rattle.lattice.specs.Neighbours.{onWall, fixedAt, isNodeFixed}
+use Rattle.lattice.specs.Curls.{curlE, curlH, divergenceOf, gradientOf}
+use Rattle.lattice.specs.Rows.{freeColumns, rowInto}
+use Rattle.lattice.proofs.GridLaws.{at-index, place-inside}
+use Rattle.lattice.proofs.Equations.{nOf-0, nOf-1, nOf-2, placeOn-0, placeOn-1, placeOn-2, freeColumns-is}
 use Rattle.operators.specs.Relation.{Spot, Times, Within, Then}
-use Rattle.operators.specs.Pattern.{SpotEdge, spotEdge, across}
+use Rattle.operators.specs.Pattern.{SpotEdge, spotEdge, across, roleOf}
 use Rattle.operators.specs.Base.{liveAt}
 use Rattle.operators.specs.Relations0.{ahead, pick, grad, cells, gradCube, divCube, Free, ByFace, Stencil}
 use Rattle.operators.specs.Levels.{isBloch, spotOf}
-use Rattle.weights.specs.Transfer.{contains}
+use Rattle.lattice.proofs.ColumnLaws.{fixed-at, curl-e-at, curl-h-at, gradient-at, offAxis, free-off, off-free, free-walls, walls-free, faceColumns, faceColumns-is, row-columns}
 use Rattle.operators.proofs.RelationLaws.{and-both, both-and}
-use Rattle.operators.proofs.NeighbourSpots.{live-across, live-role}
-use Rattle.operators.proofs.ListedPlaces.{Lists, lists-contain, lists-same, lists-append, Through, lists-each, lists-unfixed}
+use Rattle.operators.proofs.NeighbourSpots.{live-across, live-role, low3}
+use Rattle.operators.proofs.ListedPlaces.{Listed, Lists, lists-contain, lists-same, listed-append, Through, listed-each, listed-free}
 use Rattle.operators.proofs.DifferencePlaces.{Moves, Crosses, Leaves, curl-e-lists, curl-h-lists, divergence-lists, gradient-lists}
 
 -- ---- edges and nodes that are not fixed
 
-neither : (a b c : Bool) → (a || (b || c)) ≡ false → (a ≡ false) × (b ≡ false) × (c ≡ false)
-neither true b c h = absurd (false≢true (sym h))
-neither false true c h = absurd (false≢true (sym h))
-neither false false c h = (refl, refl, h)
+module _ (l : FullLattice) (p : Position) where
+  abbrev own-axis : ℕ → Bool
+  own-axis d = eqb d (p .component)
 
-none-of : {a b c : Bool} → a ≡ false → b ≡ false → c ≡ false → (a || (b || c)) ≡ false
-none-of x y z = rw (x, y, z)
+  -- on each axis the edge's place is live
+  live-free : fixedAt l p ≡ false → (d : ℕ) → d < 3 → liveAt (isBloch l d) (roleOf (own-axis d)) (placeOn p d) ≡ true
+  live-free h d i = live-role l p (own-axis d) d ∙ ap not (free-off l p h d i)
 
-module _ (l : Medium) (p : Position) where
-  -- on a wall axis other than its own the edge's place is 0
-  abbrev off : ℕ → Bool
-  off d = not (eqb d (p .component)) && onWall l p d
+  free-live : (d : ℕ) → liveAt (isBloch l d) (roleOf (own-axis d)) (placeOn p d) ≡ true → offAxis l p d ≡ false
+  free-live d h = not-true (offAxis l p d) (sym (live-role l p (own-axis d) d) ∙ h)
 
   pub fixed-free : fixedAt l p ≡ false → Free (nOf (l .grid)) (isBloch l) (p .component) (spotOf p)
-  unfolding fixedAt placeOn axis3
   fixed-free h =
-      let n = neither (off 0) (off 1) (off 2) h in
       record {
-        x = live-role l p (eqb 0 (p .component)) 0 ∙ ap not (n .0);
-        y = live-role l p (eqb 1 (p .component)) 1 ∙ ap not (n .1);
-        z = live-role l p (eqb 2 (p .component)) 2 ∙ ap not (n .2);
+        x = rw (placeOn-0 p) at (live-free h 0 (omega arith));
+        y = rw (placeOn-1 p) at (live-free h 1 (omega arith));
+        z = rw (placeOn-2 p) at (live-free h 2 (omega arith));
       }
 
   pub free-fixed : Free (nOf (l .grid)) (isBloch l) (p .component) (spotOf p) → fixedAt l p ≡ false
-  unfolding fixedAt placeOn axis3
   free-fixed h =
-      none-of {a = off 0} {b = off 1} {c = off 2}
-      (not-true (off 0) (sym (live-role l p (eqb 0 (p .component)) 0) ∙ h .x))
-      (not-true (off 1) (sym (live-role l p (eqb 1 (p .component)) 1) ∙ h .y))
-      (not-true (off 2) (sym (live-role l p (eqb 2 (p .component)) 2) ∙ h .z))
+      off-free l p
+      (low3 (λ d. offAxis l p d ≡ false) (free-live 0 (rw (placeOn-0 p) (h .x))) (free-live 1 (rw (placeOn-1 p) (h .y))) (free-live 2 (rw (placeOn-2 p) (h .z))))
 
 -- from an edge to a node that it reads
-abbrev Climbs : Medium → Position → Position → Type 0
+abbrev Climbs : FullLattice → Position → Position → Type 0
 Climbs l p s = Times (gradCube (nOf (l .grid)) (isBloch l) (p .component)) (spotOf p) (spotOf s)
 
-module _ (l : Medium) (limits : Limits (l .grid)) (p s : Position) (inside : Inside (l .grid) s) where
-  node-fixed : isNodeFixed l (indexOf (l .grid) s) ≡ (onWall l s 0 || (onWall l s 1 || onWall l s 2))
-  unfolding isNodeFixed
-  node-fixed = rw (at-index limits inside)
-
+module _ (l : FullLattice) (limits : Limits (l .grid)) (p s : Position) (inside : Inside (l .grid) s) where
   moves-climbs : Moves l true p (p .component) 0 s → isNodeFixed l (indexOf (l .grid) s) ≡ false → Climbs l p s
-  unfolding grad placeOn axis3
+  unfolding grad
   moves-climbs m h =
-      let n = neither (onWall l s 0) (onWall l s 1) (onWall l s 2) (sym node-fixed ∙ h) in
       record {
-        x = both-and (live-across l s 0 ∙ ap not (n .0)) (m .1 .x);
-        y = both-and (live-across l s 1 ∙ ap not (n .1)) (m .1 .y);
-        z = both-and (live-across l s 2 ∙ ap not (n .2)) (m .1 .z);
+        x = both-and (rw (placeOn-0 s) at (live 0 (omega arith))) (m .1 .x);
+        y = both-and (rw (placeOn-1 s) at (live 1 (omega arith))) (m .1 .y);
+        z = both-and (rw (placeOn-2 s) at (live 2 (omega arith))) (m .1 .z);
       }
+    where
+      live : (d : ℕ) → d < 3 → liveAt (isBloch l d) across (placeOn s d) ≡ true
+      live d i = live-across l s d ∙ ap not (free-walls l limits inside h d i)
 
   climbs-moves : s .component ≡ 0 → Climbs l p s → Moves l true p (p .component) 0 s × (isNodeFixed l (indexOf (l .grid) s) ≡ false)
-  unfolding grad placeOn axis3
+  unfolding grad
   climbs-moves e h =
       let n = nOf (l .grid) in
       let b = isBloch l in
@@ -90,74 +82,77 @@ module _ (l : Medium) (limits : Limits (l .grid)) (p s : Position) (inside : Ins
       let y = and-both (liveAt (b 1) across (s .j)) (pick (eqb 1 (p .component)) (ahead (n 1) (b 1)) eqb (p .j) (s .j)) (h .y) in
       let z = and-both (liveAt (b 2) across (s .k)) (pick (eqb 2 (p .component)) (ahead (n 2) (b 2)) eqb (p .k) (s .k)) (h .z) in (
         (e, record { x = x .1; y = y .1; z = z .1 }),
-        node-fixed
-            ∙ none-of {a = onWall l s 0} {b = onWall l s 1} {c = onWall l s 2}
-            (not-true (onWall l s 0) (sym (live-across l s 0) ∙ x .0))
-            (not-true (onWall l s 1) (sym (live-across l s 1) ∙ y .0))
-            (not-true (onWall l s 2) (sym (live-across l s 2) ∙ z .0)),
+        walls-free l limits inside
+            (low3 (λ d. onWall l s d ≡ false) (wall 0 (rw (placeOn-0 s) (x .0))) (wall 1 (rw (placeOn-1 s) (y .0))) (wall 2 (rw (placeOn-2 s) (z .0)))),
       )
+    where
+      wall : (d : ℕ) → liveAt (isBloch l d) across (placeOn s d) ≡ true → onWall l s d ≡ false
+      wall d h = not-true (onWall l s d) (sym (live-across l s d) ∙ h)
 
 -- ---- the row
 
 -- q is a column of the row of p
-abbrev pub Touched : Medium → Position → Position → Type 0
+abbrev pub Touched : FullLattice → Position → Position → Type 0
 Touched l p q = Stencil (nOf (l .grid)) (isBloch l) (p .component) (q .component) (spotOf p) (spotOf q)
 
-abbrev Unfixed : Medium → (Position → Position → Type 0) → Position → Position → Type 0
+abbrev Unfixed : FullLattice → (Position → Position → Type 0) → Position → Position → Type 0
 Unfixed l P s q = P s q × (fixedAt l q ≡ false)
 
 -- by way of a face, and of a node
-abbrev ViaFace : Medium → Position → Position → Type 0
+abbrev ViaFace : FullLattice → Position → Position → Type 0
 ViaFace l p = Through l (Crosses l false p) (Unfixed l (Crosses l true))
 
-abbrev ViaNode : Medium → Position → Position → Type 0
+abbrev ViaNode : FullLattice → Position → Position → Type 0
 ViaNode l p = Through l (λ s. Moves l true p (p .component) 0 s × (isNodeFixed l (indexOf (l .grid) s) ≡ false)) (Unfixed l (Leaves l))
 
-pub within : (l : Medium) (s : Position) → Inside (l .grid) s → Within (cells (nOf (l .grid)) (isBloch l)) (spotOf s)
-unfolding nOf axis3
-within l s a = record { x = a .i-in; y = a .j-in; z = a .k-in }
+pub within : (l : FullLattice) (s : Position) → Inside (l .grid) s → Within (cells (nOf (l .grid)) (isBloch l)) (spotOf s)
+within l s a =
+    record {
+      x = rw (placeOn-0 s) at (place-inside a 0);
+      y = rw (placeOn-1 s) at (place-inside a 1);
+      z = rw (placeOn-2 s) at (place-inside a 2);
+    }
 
 -- the position of component c at a spot
 abbrev pub placed : ℕ → Spot → Position
 placed c s = record { component = c; i = s .x; j = s .y; k = s .z }
 
-pub placed-inside : (l : Medium) (c : ℕ) (s : Spot) → c < 3 → Within (cells (nOf (l .grid)) (isBloch l)) s → Inside (l .grid) (placed c s)
-unfolding nOf axis3
-placed-inside l c s h w = record { c-in = h; i-in = w .x; j-in = w .y; k-in = w .z }
+pub placed-inside : (l : FullLattice) (c : ℕ) (s : Spot) → c < 3 → Within (cells (nOf (l .grid)) (isBloch l)) s → Inside (l .grid) (placed c s)
+placed-inside l c s h w =
+    record {
+      c-in = h;
+      i-in = rw (nOf-0 (l .grid)) at (w .x);
+      j-in = rw (nOf-1 (l .grid)) at (w .y);
+      k-in = rw (nOf-2 (l .grid)) at (w .z);
+    }
 
-module _ (l : Medium) (limits : Limits (l .grid)) where
-  column-at : (s : Position) (c : ℕ) → Inside (l .grid) s → indexOf (l .grid) s ≡ c → atOf (l .grid) c ≡ s
-  column-at s c a e = ap (atOf (l .grid)) (sym e) ∙ at-index limits a
+module _ (l : FullLattice) (limits : Limits (l .grid)) where
+  -- the free edges of a face, and of a node
+  face-listed : (s : Position) → Inside (l .grid) s → Listed l (Unfixed l (Crosses l true) s) (faceColumns l (indexOf (l .grid) s))
+  face-listed s a =
+      rw (faceColumns-is l (indexOf (l .grid) s))
+      (listed-free l limits (Crosses l true s) (columnsOf (curlE l (indexOf (l .grid) s))) (rw (curl-e-at l limits a) (curl-e-lists l s a)))
 
-  face-lists : (s : Position) (t : Term) → Inside (l .grid) s → indexOf (l .grid) s ≡ t .column → Lists l (Unfixed l (Crosses l true) s) (faceTerms l t)
-  unfolding faceTerms faceTerm Curls.curlE
-  face-lists s t a e =
-      lists-unfixed l limits (Crosses l true s) (faceTerm l (t .number)) (λ u. product (negation (t .number)) (u .number)) (Curls.curlE l (t .column)) (λ u. refl)
-      (rw (column-at s (t .column) a e) (curl-e-lists l s a))
+  node-listed : (s : Position) → Inside (l .grid) s → Listed l (Unfixed l (Leaves l) s) (freeColumns l (indexOf (l .grid) s))
+  node-listed s a =
+      rw (freeColumns-is l (indexOf (l .grid) s))
+      (listed-free l limits (Leaves l s) (columnsOf (divergenceOf l (indexOf (l .grid) s))) (divergence-lists l s (indexOf (l .grid) s) a (at-index limits a)))
 
-  node-lists : (f : ℕ → C64) (s : Position) (t : Term) → Inside (l .grid) s → indexOf (l .grid) s ≡ t .column → Lists l (Unfixed l (Leaves l) s) (nodeTerms l f t)
-  unfolding nodeTerms nodeTerm
-  node-lists f s t a e =
-      let inverse = realOver oneF (nodeEps l f (t .column)) in
-      lists-unfixed l limits (Leaves l s) (nodeTerm l f (t .number) inverse)
-      (λ u. product (product (product (realTimes (negF Curls.minusOneF) (t .number)) (u .number)) (f (u .column))) inverse) (Curls.divergenceOf l (t .column)) (λ u. refl)
-      (divergence-lists l s (t .column) a (column-at s (t .column) a e))
+  module _ (p : Position) (inside : Inside (l .grid) p) where
+    abbrev r : ℕ
+    r = indexOf (l .grid) p
 
-  module _ (p : Position) (inside : Inside (l .grid) p) (f : ℕ → C64) where
-    curl-curl-lists : Lists l (ViaFace l p) (curlCurl l (indexOf (l .grid) p))
-    unfolding curlCurl Curls.curlH
-    curl-curl-lists =
-        lists-each (Crosses l false p) (Unfixed l (Crosses l true)) (faceTerms l) (Curls.curlH l (indexOf (l .grid) p)) (rw (at-index limits inside) (curl-h-lists l p inside)) face-lists
+    faces-listed : Listed l (ViaFace l p) (each (faceColumns l) (columnsOf (curlH l r)))
+    faces-listed =
+        listed-each (Crosses l false p) (Unfixed l (Crosses l true)) (faceColumns l) (columnsOf (curlH l r)) (rw (curl-h-at l limits inside) (curl-h-lists l p inside)) face-listed
 
-    grad-div-lists : Lists l (ViaNode l p) (gradDiv l f (indexOf (l .grid) p))
-    unfolding gradDiv Curls.gradientOf
-    grad-div-lists =
-        lists-each (λ s. Moves l true p (p .component) 0 s × (isNodeFixed l (indexOf (l .grid) s) ≡ false)) (Unfixed l (Leaves l)) (nodeTerms l f) (Curls.gradientOf l (indexOf (l .grid) p))
-        (rw (at-index limits inside) (gradient-lists l p inside)) (node-lists f)
+    nodes-listed : Listed l (ViaNode l p) (each (freeColumns l) (columnsOf (gradientOf l r)))
+    nodes-listed =
+        listed-each (λ s. Moves l true p (p .component) 0 s × (isNodeFixed l (indexOf (l .grid) s) ≡ false)) (Unfixed l (Leaves l)) (freeColumns l) (columnsOf (gradientOf l r))
+        (rw (gradient-at l limits inside) (gradient-lists l p inside)) node-listed
 
-    own-lists : (v : C64) → Lists l (λ q. q ≡ p) (record { column = indexOf (l .grid) p; number = v } ∷ [])
-    unfolding columnsOf
-    own-lists v =
+    own-listed : Listed l (λ q. q ≡ p) (r ∷ [])
+    own-listed =
         record {
           there = λ c i. record { at = p; inside = inside; is = ⊎-elim (λ e. sym e) (λ e. absurd e) i; held = refl };
           back = λ q a e. inl (ap (indexOf (l .grid)) e);
@@ -223,23 +218,19 @@ module _ (l : Medium) (limits : Limits (l .grid)) where
 
   -- the row has just the stencil's columns
   pub row-lists : (p : Position) → Inside (l .grid) p → (f : ℕ → C64) → Lists l (Touched l p) (rowInto l f (indexOf (l .grid) p))
-  unfolding rowInto isFixed
-  row-lists p a f = rw (at-index limits a) (go (fixedAt l p) refl)
+  row-lists p a f = rw (row-columns l f (r p a), fixed-at l limits a) (go (fixedAt l p) refl)
     where
-      r : ℕ
-      r = indexOf (l .grid) p
+      edges : List ℕ
+      edges = each (faceColumns l) (columnsOf (curlH l (r p a))) ++ each (freeColumns l) (columnsOf (gradientOf l (r p a)))
 
-      own : C64
-      own = realTimes (mulF (l .k0) (l .k0)) (f r)
-
-      go : (b : Bool) → fixedAt l p ≡ b → Lists l (Touched l p) (cond b (record { column = r; number = oneNumber } ∷ []) (record { column = r; number = own } ∷ (curlCurl l r ++ gradDiv l f r)))
-      go true h = lists-same (λ q. q ≡ p) (Touched l p) (λ q b. fixed-touched p q a b h) (own-lists p a f oneNumber)
+      go : (b : Bool) → fixedAt l p ≡ b → Listed l (Touched l p) (cond b (r p a ∷ []) (r p a ∷ edges))
+      go true h = lists-same (λ q. q ≡ p) (Touched l p) (λ q b. fixed-touched p q a b h) (own-listed p a)
       go false h =
           lists-same (λ q. (q ≡ p) ⊎ (ViaFace l p q ⊎ ViaNode l p q)) (Touched l p) (λ q b. free-touched p q a b h)
-          (lists-append (λ q. q ≡ p) (λ q. ViaFace l p q ⊎ ViaNode l p q) (record { column = r; number = own } ∷ []) (curlCurl l r ++ gradDiv l f r) (own-lists p a f own)
-          (lists-append (ViaFace l p) (ViaNode l p) (curlCurl l r) (gradDiv l f r) (curl-curl-lists p a f) (grad-div-lists p a f)))
+          (listed-append (λ q. q ≡ p) (λ q. ViaFace l p q ⊎ ViaNode l p q) (r p a ∷ []) edges (own-listed p a)
+          (listed-append (ViaFace l p) (ViaNode l p) (each (faceColumns l) (columnsOf (curlH l (r p a)))) (each (freeColumns l) (columnsOf (gradientOf l (r p a)))) (faces-listed p a) (nodes-listed p a)))
 
 -- the theorem
-pub row-in : (l : Medium) (p q : Position) (f : ℕ → C64) → Limits (l .grid) → Inside (l .grid) p → Inside (l .grid) q
+pub row-in : (l : FullLattice) (p q : Position) (f : ℕ → C64) → Limits (l .grid) → Inside (l .grid) p → Inside (l .grid) q
     → (contains (indexOf (l .grid) q) (columnsOf (rowInto l f (indexOf (l .grid) p))) ≡ true) ↔ Touched l p q
 row-in l p q f h a b = lists-contain l (Touched l p) (rowInto l f (indexOf (l .grid) p)) q h b (row-lists l h p a f)

@@ -1,10 +1,9 @@
 -- Volumes of a lattice's edges, the shares of a coarse level and their inverses, and what each of them reads.
 -- Assumes nothing.
-use Prim.Native.Nat.{ℕ, zero, suc, _+_, _-_, _*_, _<_, _≤_, _^_}
+use Prim.Native.Nat.{ℕ, suc, _+_, _-_, _*_, _<_, _≤_, _^_}
 use mathlib.Core.Path.{_≡_, refl, sym, ap, _∙_}
-use mathlib.Core.Logic.{_⊎_, ⊎-elim}
 use mathlib.Core.Bool.{Bool, true, false, _&&_}
-use mathlib.Core.List.{List, [], _∷_, List·Memᴰ as In, List·Memᴰ·head as head, List·Memᴰ·tail as tail, List·Memᴰ·not-nil, List·Memᴰ·cases-cons}
+use mathlib.Core.List.{List, [], _∷_, List·Memᴰ as In, List·Memᴰ·head as head, List·Memᴰ·tail as tail}
 use native.Mathlib.Omega.{arith}
 use native.Mathlib.Numerals.{add-one}
 use native.Mathlib.Decide.{ℕ-discrete}
@@ -18,15 +17,15 @@ use Rattle.numbers.proofs.Laws.{and-true, and-false}
 use Rattle.lattice.specs.declared.grid.Grid3d.{Grid3d}
 use Rattle.lattice.specs.declared.grid.Position.{Position}
 use Rattle.lattice.specs.Grid.{stepOf, placeOn, atOf, Limits, Inside}
-use Rattle.lattice.specs.Lattice.{Medium, nodesAt, halvesAt, tabulate}
-use Rattle.lattice.specs.Terms.{Term, columnsOf, termsIn}
+use Rattle.lattice.specs.Lattice.{FullLattice, nodesAt, halvesAt}
+use Rattle.numbers.specs.Lists.{tabulate, rows, laidNumbers, allFinite, readFrom}
+use Rattle.numbers.specs.Terms.{Term, columnsOf, termsIn, storedRow, Stored}
 use Rattle.lattice.proofs.GridLaws.{n-most, place-inside}
-use Rattle.lattice.proofs.TabulateLaws.{length-tabulate}
-use Rattle.weights.specs.Lists.{rows, laidNumbers, allFinite}
-use Rattle.weights.specs.Transfer.{storedRow, Stored}
-use Rattle.weights.specs.Tables.{readFrom}
-use Rattle.weights.proofs.ListLaws.{laid-one, laid-numbers-before, laid-numbers-same, read-back, Laying, laying-start, laying-turn, laying-end, tabulate-more}
-use Rattle.weights.proofs.TransferLaws.{row-of}
+use Rattle.numbers.proofs.TabulateLaws.{length-tabulate}
+use Rattle.numbers.proofs.ListLaws.{laid-one, laid-numbers-before, laid-numbers-same, read-back, Laying, laying-start, laying-turn, laying-end}
+use Rattle.numbers.proofs.TransposeLaws.{row-of}
+use Rattle.numbers.proofs.Equations.{columnsOf-cons, termsIn-zero, termsIn-suc, storedRow-is, readFrom-is}
+use Rattle.numbers.proofs.ElementLaws.{alone, rows-alone, terms-low}
 use Rattle.operators.specs.Volumes.{sideOf, volumeAt, volumeOf, weighted, shareOf, inverseOf, inverseShare, shareFinite, sharesFinite, SharesRoom}
 
 -- ---- the volume of an edge's cell
@@ -34,7 +33,7 @@ use Rattle.operators.specs.Volumes.{sideOf, volumeAt, volumeOf, weighted
 pub place-few : {g : Grid3d} {p : Position} {m : ℕ} → Limits g → Inside g p → (a : ℕ) → m ≡ placeOn p a → m < 64
 place-few h i a e = omega (arith, place-inside i a, n-most h a)
 
-module _ (l : Medium) (p : Position) (a : ℕ) where
+module _ (l : FullLattice) (p : Position) (a : ℕ) where
   pub side-along : {m : ℕ} {s : Float} {h v : C64} → a ≡ p .component → m ≡ placeOn p a → s ≡ stepOf (l .grid) a → h ≡ halvesAt l a m → v ≡ realTimes s h
       → v ≡ sideOf l p a
   unfolding sideOf
@@ -45,13 +44,13 @@ module _ (l : Medium) (p : Position) (a : ℕ) where
   unfolding sideOf
   side-across q e f o w = rw (ne-eqb a (p .component) q, ← e, ← f, ← o) w
 
-pub volume-is : (l : Medium) (r : ℕ) {p : Position} {one x y z u v w : C64} → p ≡ atOf (l .grid) r → one ≡ oneNumber → x ≡ sideOf l p 0 → u ≡ product one x
+pub volume-is : (l : FullLattice) (r : ℕ) {p : Position} {one x y z u v w : C64} → p ≡ atOf (l .grid) r → one ≡ oneNumber → x ≡ sideOf l p 0 → u ≡ product one x
     → y ≡ sideOf l p 1 → v ≡ product u y → z ≡ sideOf l p 2 → w ≡ product v z → w ≡ volumeOf l r
 unfolding volumeOf volumeAt
 volume-is l r e o x u y v z w = rw (← e, ← o, ← x, ← u, ← y, ← v, ← z) w
 
--- a volume reads the grid, the stretch halfway behind the edge's node along its component, and the stretch at that node across it: no permittivity
-side-local : (l k : Medium) (p : Position) (a : ℕ) → l .grid ≡ k .grid → (a ≡ p .component → halvesAt l a (placeOn p a) ≡ halvesAt k a (placeOn p a))
+-- a volume reads the grid, the stretch half a step after the edge's node along its component, and the stretch at that node across it: no permittivity
+side-local : (l k : FullLattice) (p : Position) (a : ℕ) → l .grid ≡ k .grid → (a ≡ p .component → halvesAt l a (placeOn p a) ≡ halvesAt k a (placeOn p a))
     → ((a ≡ p .component → ⊥) → nodesAt l a (placeOn p a) ≡ nodesAt k a (placeOn p a)) → sideOf l p a ≡ sideOf k p a
 unfolding sideOf
 side-local l k p a e h n = go (ℕ-discrete a (p .component))
@@ -60,7 +59,7 @@ side-local l k p a e h n = go (ℕ-discrete a (p .component))
     go (yes q) = rw (eq-eqb a (p .component) q, h q, e)
     go (no q) = rw (ne-eqb a (p .component) q, n q, e)
 
-pub volume-local : (l k : Medium) (r : ℕ) → l .grid ≡ k .grid
+pub volume-local : (l k : FullLattice) (r : ℕ) → l .grid ≡ k .grid
     → ((a : ℕ) → a ≡ atOf (l .grid) r .component → halvesAt l a (placeOn (atOf (l .grid) r) a) ≡ halvesAt k a (placeOn (atOf (l .grid) r) a))
     → ((a : ℕ) → a < 3 → (a ≡ atOf (l .grid) r .component → ⊥) → nodesAt l a (placeOn (atOf (l .grid) r) a) ≡ nodesAt k a (placeOn (atOf (l .grid) r) a))
     → volumeOf l r ≡ volumeOf k r
@@ -72,15 +71,6 @@ volume-local l k r e h n =
     ∙ ap (λ (g : Grid3d). volumeAt k (atOf g r)) e
 
 -- ---- numbers laid over a list, one at each turn
-
--- one number in each row
-abbrev pub alone : {A : Type 0} → (ℕ → A) → ℕ → List A
-alone f m = f m ∷ []
-
-rows-alone : {A : Type 0} (f : ℕ → A) (n : ℕ) → rows (alone f) n ≡ tabulate f n 0
-unfolding rows tabulate
-rows-alone f zero = refl
-rows-alone f (suc n) = rw (rows-alone f n) (sym (tabulate-more f n 0 n (omega arith)))
 
 -- m of n numbers laid from place k on
 pub record Placing (f : ℕ → C64) (n k : ℕ) (xs ys : List Float) (m : ℕ) : Type 0 where
@@ -126,14 +116,14 @@ module _ {v : ℕ → C64} {cs : List ℕ} {xs : List Float} {first last : ℕ} 
 
   pub weighing-turn : {q : ℕ} {s t x y z : C64} → Weighing v cs xs first last q s → q < last → x ≡ v (getD cs q 0) → y ≡ numberAt xs q → z ≡ product y x
       → t ≡ sum s z → Weighing v cs xs first last (q + 1) t
-  unfolding weighted termsIn
+  unfolding weighted
   weighing-turn {q} {s} {t} {x} {y} {z} w h a b c d =
       let e : last - q ≡ suc (last - (q + 1)) = omega arith in
-      record { low = omega (arith, w .low); same = rw (d, c, b, a, add-one q) (rw (e, add-one q) at (w .same)) }
+      record { low = omega (arith, w .low); same = rw (d, c, b, a, add-one q) (rw (e, termsIn-suc cs xs q (last - (q + 1)), add-one q) at (w .same)) }
 
   pub weighing-end : {q : ℕ} {s : C64} → Weighing v cs xs first last q s → last ≤ q → s ≡ weighted v zeroNumber (termsIn cs xs first (last - first))
-  unfolding weighted termsIn
-  weighing-end {q} {s} w h = let e : last - q ≡ 0 = omega arith in rw e at (w .same)
+  unfolding weighted
+  weighing-end {q} {s} w h = let e : last - q ≡ 0 = omega arith in rw (e, termsIn-zero cs xs q) at (w .same)
 
 module _ (x : C64) {r : C64} {b : Bool} (e : b ≡ isZero x) where
   pub inverse-none : b ≡ true → r ≡ oneNumber → r ≡ inverseOf x
@@ -170,18 +160,34 @@ module _ {starts : List ℕ} {s : ℕ} {cs : List ℕ} {xs : List Float} {k m n 
       ≡ weighted v zeroNumber
       (termsIn cs xs (k + getD starts (s + c) 0) (k + getD starts (s + c + 1) 0 - (k + getD starts (s + c) 0)))
       → x ≡ shareOf (storedRow starts s cs xs k) v c
-  unfolding shareOf storedRow
+  unfolding shareOf
   row-share v e =
       let d : k + getD starts (s + c + 1) 0 - (k + getD starts (s + c) 0) ≡ getD starts (s + c + 1) 0 - getD starts (s + c) 0 = omega arith in
-      rw d at e
+      rw (storedRow-is starts s cs xs k c) (rw d at e)
+
+-- the share and its inverse, and whether both are finite
+module _ (R : ℕ → List Term) (v : ℕ → C64) (c : ℕ) {x y : C64} (e : x ≡ shareOf R v c) (o : y ≡ inverseOf x) where
+  pub inverse-is : y ≡ inverseShare R v c
+  unfolding inverseShare
+  inverse-is = o ∙ ap inverseOf e
+
+  module _ {p : Bool} (d : p ≡ finite x) where
+    pub finite-both : {q : Bool} → p ≡ true → q ≡ finite y → q ≡ shareFinite R v c
+    unfolding shareFinite
+    finite-both t i = rw (← e, ← inverse-is) (i ∙ sym (and-true (finite x) (finite y) (sym d ∙ t)))
+
+    pub finite-first : p ≡ false → p ≡ shareFinite R v c
+    unfolding shareFinite
+    finite-first t = rw (← e, ← inverse-is) (d ∙ sym (and-false (finite x) (finite y) (sym d ∙ t)))
 
 -- ---- what shares read
 
 weighted-local : (v w : ℕ → C64) (ts : List Term) (s : C64) → ((c : ℕ) → In c (columnsOf ts) → v c ≡ w c) → weighted v s ts ≡ weighted w s ts
-unfolding weighted columnsOf
+unfolding weighted
 weighted-local v w [] s h = refl
 weighted-local v w (t ∷ ts) s h =
-    rw (h (t .column) (head refl)) (weighted-local v w ts (sum s (product (t .number) (w (t .column)))) (λ c m. h c (tail m)))
+    rw (h (t .column) (rw (columnsOf-cons t ts) (head refl)))
+    (weighted-local v w ts (sum s (product (t .number) (w (t .column)))) (λ c m. h c (rw (columnsOf-cons t ts) (tail m))))
 
 -- a share sees its row, and of the volumes those at the row's columns
 module _ (R R′ : ℕ → List Term) (v w : ℕ → C64) (c : ℕ) (e : R c ≡ R′ c) (h : (d : ℕ) → In d (columnsOf (R c)) → v d ≡ w d) where
@@ -195,14 +201,6 @@ module _ (R R′ : ℕ → List Term) (v w : ℕ → C64) (c : ℕ) (e : R c ≡
 
 -- ---- the inverse shares, c of m laid behind the volumes
 
-terms-low : (cs : List ℕ) (xs : List Float) (k n b : ℕ) → ((q : ℕ) → k ≤ q → q < k + n → getD cs q 0 < b) → (d : ℕ) → In d (columnsOf (termsIn cs xs k n)) → d < b
-unfolding termsIn columnsOf
-terms-low cs xs k zero b h d m = absurd (List·Memᴰ·not-nil m)
-terms-low cs xs k (suc n) b h d m =
-    ⊎-elim (λ (e : d ≡ getD cs k 0). rw e (h k (omega arith) (omega arith)))
-    (λ (o : In d (columnsOf (termsIn cs xs (suc k) n))). terms-low cs xs (suc k) n b (λ q i j. h q (omega arith) (omega arith)) d o)
-    (List·Memᴰ·cases-cons m)
-
 pub record Sharing (R : ℕ → List Term) (v : ℕ → C64) (m to : ℕ) (xs ys : List Float) (c : ℕ) (b : Bool) : Type 0 where
   pub placed : Placing (inverseShare R v) m to xs ys c
   pub seen : b ≡ sharesFinite R v c
@@ -211,43 +209,36 @@ pub sharing-start : {R : ℕ → List Term} {v : ℕ → C64} {m to : ℕ} {xs :
 unfolding sharesFinite
 sharing-start = record { placed = placing-start; seen = refl }
 
-module _ {starts : List ℕ} {s : ℕ} {cs : List ℕ} {ws : List Float} {p m n to c : ℕ} {xs ys zs : List Float} {b : Bool} {x y : C64} (k : ℕ)
-    (u : Stored starts s cs ws p m n) (apart : k + n ≤ to) (t : Sharing (storedRow starts s cs ws p) (readFrom xs k) m to xs ys c b) (h : c < m)
-    (e : x ≡ shareOf (storedRow starts s cs ws p) (readFrom ys k) c) (o : y ≡ inverseOf x) (z : zs ≡ setNumber ys (to + c) y) where
-  -- the volumes still stand
-  share-kept : x ≡ shareOf (storedRow starts s cs ws p) (readFrom xs k) c
-  unfolding storedRow readFrom
-  share-kept =
-      e
-      ∙ share-local (storedRow starts s cs ws p) (storedRow starts s cs ws p) (readFrom ys k) (readFrom xs k) c refl
-      (λ d i.
+-- a share is worked out while the volumes still stand
+module _ {starts : List ℕ} {s : ℕ} {cs : List ℕ} {ws : List Float} {p m n to c : ℕ} {xs ys : List Float} {b : Bool} (k : ℕ)
+    (u : Stored starts s cs ws p m n) (apart : k + n ≤ to) (t : Sharing (storedRow starts s cs ws p) (readFrom xs k) m to xs ys c b) (h : c < m) where
+  volume-kept : (d : ℕ) → In d (columnsOf (storedRow starts s cs ws p c)) → readFrom ys k d ≡ readFrom xs k d
+  volume-kept d i =
       let l : d < n =
       terms-low cs ws (p + getD starts (s + c) 0) (getD starts (s + c + 1) 0 - getD starts (s + c) 0) n
-      (λ q f g. row-low u h q f (omega (arith, u .rise c h))) d i in
-      placing-before (t .placed) (k + d) (omega arith))
+      (λ q f g. row-low u h q f (omega (arith, u .rise c h))) d (rw (storedRow-is starts s cs ws p c) at i) in
+      rw (readFrom-is ys k d, readFrom-is xs k d) (placing-before (t .placed) (k + d) (omega arith))
 
-  inverse-kept : y ≡ inverseShare (storedRow starts s cs ws p) (readFrom xs k) c
+  share-kept : shareOf (storedRow starts s cs ws p) (readFrom ys k) c ≡ shareOf (storedRow starts s cs ws p) (readFrom xs k) c
+  share-kept = share-local (storedRow starts s cs ws p) (storedRow starts s cs ws p) (readFrom ys k) (readFrom xs k) c refl volume-kept
+
+  inverse-kept : inverseShare (storedRow starts s cs ws p) (readFrom ys k) c ≡ inverseShare (storedRow starts s cs ws p) (readFrom xs k) c
   unfolding inverseShare
-  inverse-kept = o ∙ ap inverseOf share-kept
+  inverse-kept = ap inverseOf share-kept
 
-  pub sharing-turn : {f : Bool} → f ≡ (b && (finite x && finite y)) → Sharing (storedRow starts s cs ws p) (readFrom xs k) m to xs zs (c + 1) f
-  unfolding sharesFinite shareFinite
-  sharing-turn g =
+  finite-kept : shareFinite (storedRow starts s cs ws p) (readFrom ys k) c ≡ shareFinite (storedRow starts s cs ws p) (readFrom xs k) c
+  unfolding shareFinite
+  finite-kept = rw (share-kept, inverse-kept)
+
+  pub sharing-turn : {zs : List Float} {f g : Bool} → zs ≡ setNumber ys (to + c) (inverseShare (storedRow starts s cs ws p) (readFrom ys k) c)
+      → f ≡ shareFinite (storedRow starts s cs ws p) (readFrom ys k) c → g ≡ (b && f)
+      → Sharing (storedRow starts s cs ws p) (readFrom xs k) m to xs zs (c + 1) g
+  unfolding sharesFinite
+  sharing-turn z e o =
       record {
         placed = placing-turn (t .placed) h inverse-kept z;
-        seen = rw (add-one c, ← share-kept, ← inverse-kept, ← t .seen) g;
+        seen = rw (add-one c, ← t .seen, ← finite-kept, ← e) o;
       }
-
--- the tests, one behind another: each is made only where those before it hold
-module _ (a x y : Bool) {p f : Bool} (e : p ≡ x) where
-  pub tests-all : {q : Bool} → a ≡ true → p ≡ true → q ≡ y → f ≡ q → f ≡ (a && (x && y))
-  tests-all h t d r = r ∙ d ∙ sym (and-true a (x && y) h ∙ and-true x y (sym e ∙ t))
-
-  pub tests-second : a ≡ true → p ≡ false → f ≡ p → f ≡ (a && (x && y))
-  tests-second h t r = r ∙ e ∙ sym (and-true a (x && y) h ∙ and-false x y (sym e ∙ t))
-
-pub tests-first : (a x y : Bool) {f : Bool} → a ≡ false → f ≡ a → f ≡ (a && (x && y))
-tests-first a x y {f} h r = r ∙ sym (and-false a (x && y) h)
 
 pub sharing-end : {R : ℕ → List Term} {v : ℕ → C64} {m to c : ℕ} {xs ys : List Float} {b : Bool} → Sharing R v m to xs ys c b → m ≤ c
     → (ys ≡ laidNumbers xs to (tabulate (inverseShare R v) m 0)) × (b ≡ sharesFinite R v m)

@@ -1,16 +1,25 @@
--- Bits of unions, of single places and of the empty word.
+-- Bits of unions, of single places and of the empty word; words gathered from words.
 -- Assumes nothing.
 use Prim.Native.Nat.{ℕ, zero, suc, _+_, _-_, _*_, _/_, _%_, _^_, _<_, max}
 use mathlib.Core.Path.{_≡_, refl, sym, _∙_, ap}
 use mathlib.Core.Bool.{Bool, true, false, cond, _&&_, _||_}
+use mathlib.Core.List.{List}
 use native.Mathlib.Nat.{mod-lt, zero-div, div-eq-of-lt, zero-lt-suc, div-self, mod-eq-of-lt, pow-suc}
 use native.Mathlib.Omega.{arith}
 use native.Mathlib.Decide.{ℕ-discrete, decLt}
+use native.Mathlib.Numerals.{add-one}
 use borrow.Author.Tests.{eq-eqb, ne-eqb}
 use lib.Dec.{eqb}
 use lib.Pow.{pow-pos, pow-lt, pow-add, shl-shr}
 use lib.Bits.{bitOr, or-shr, or-step, or-zero-l, or-zero-r}
-use Rattle.operators.specs.Bits.{bitAt, mixOf}
+use lib.ListN.{length}
+use Rattle.numbers.specs.Lists.{tabulate, contains, entryAt}
+use Rattle.numbers.proofs.Equations.{tabulate-zero, contains-nil}
+use Rattle.numbers.proofs.ListLaws.{tabulate-more}
+use Rattle.numbers.proofs.TabulateLaws.{is-tabulate}
+use Rattle.operators.specs.Bits.{bitAt, mixOf, single, gathered, setOf}
+use Rattle.operators.specs.Relation.{some}
+use Rattle.numbers.proofs.StartLaws.{contains-last}
 
 two-pos : 0 < 2
 two-pos = zero-lt-suc 1
@@ -73,8 +82,40 @@ unfolding mixOf
 mix-right t s = sym (or-zero-l s)
 
 -- the machine's shift
-pub bit-shifted : (k : ℕ) → k < 64 → (j : ℕ) → bitAt (1 * 2 ^ k % 2 ^ 64) j ≡ eqb j k
-bit-shifted k h j =
+pub single-shifted : (k : ℕ) → k < 64 → 1 * 2 ^ k % 2 ^ 64 ≡ single k
+single-shifted k h =
     let e : 1 * 2 ^ k ≡ 2 ^ k = omega arith in
-    let f : 2 ^ k % 2 ^ 64 ≡ 2 ^ k = mod-eq-of-lt (pow-lt h) in
-    rw (e, f) (bit-unit k j)
+    rw e (mod-eq-of-lt (pow-lt h))
+
+-- ---- unions of words
+
+pub gathered-none : (p : ℕ → Bool) (w : ℕ → ℕ) → 0 ≡ gathered 0 p w
+unfolding gathered
+gathered-none p w = refl
+
+pub gathered-turn : {u u′ k v : ℕ} {b : Bool} (p : ℕ → Bool) (w : ℕ → ℕ) → u ≡ gathered k p w → b ≡ p k → v ≡ w k → u′ ≡ mixOf true u b v → u′ ≡ gathered (k + 1) p w
+unfolding gathered
+gathered-turn {k = k} p w e f g h = rw (add-one k, ← e, ← f, ← g) h
+
+-- only what stands below n counts
+pub gathered-agree : (n : ℕ) {p p′ : ℕ → Bool} {w w′ : ℕ → ℕ} → ((k : ℕ) → k < n → p k ≡ p′ k) → ((k : ℕ) → k < n → w k ≡ w′ k) → gathered n p w ≡ gathered n p′ w′
+unfolding gathered
+gathered-agree zero f g = refl
+gathered-agree (suc n) f g = rw (gathered-agree n (λ k h. f k (omega arith)) (λ k h. g k (omega arith)), f n (omega arith), g n (omega arith))
+
+pub bit-gathered : (n : ℕ) (p : ℕ → Bool) (w : ℕ → ℕ) (j : ℕ) → bitAt (gathered n p w) j ≡ some n (λ k. p k && bitAt (w k) j)
+unfolding gathered some
+bit-gathered zero p w j = bit-none j
+bit-gathered (suc n) p w j = bit-mix true (gathered n p w) (p n) (w n) j ∙ rw (bit-gathered n p w j)
+
+-- the union of single places
+bit-places : (f : ℕ → ℕ) (n j : ℕ) → bitAt (gathered n (λ k. true) (λ k. single (f k))) j ≡ contains j (tabulate f n 0)
+unfolding gathered
+bit-places f zero j = rw (tabulate-zero, contains-nil) (bit-none j)
+bit-places f (suc n) j =
+    bit-mix true (gathered n (λ k. true) (λ k. single (f k))) true (single (f n)) j
+    ∙ rw (bit-places f n j, bit-unit (f n) j, tabulate-more f n 0 n (omega arith)) (sym (contains-last j (f n) (tabulate f n 0)))
+
+pub bit-set : (ms : List ℕ) (j : ℕ) → bitAt (setOf ms) j ≡ contains j ms
+unfolding setOf
+bit-set ms j = bit-places (entryAt ms) (length ms) j ∙ ap (contains j) (sym (is-tabulate (entryAt ms) (length ms) 0 ms refl (λ i h. refl)))

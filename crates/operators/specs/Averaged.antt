@@ -1,5 +1,5 @@
--- The permittivity of a rediscretized level (docs/SPECIFICATION.md, 10): along an edge the harmonic mean of the fine permittivities in its cell,
--- across it the mean over the fine nodes around its own, each weighed by its distance. Places are whole half-steps, never maps.
+-- The permittivity of a rediscretized level (docs/SPECIFICATION.md, 10): a mean over lines of fine edges, each line
+-- entering by its harmonic mean and by how near it lies. Places are whole half-steps, never maps.
 -- Assumes nothing.
 use Prim.Native.Nat.{ℕ, zero, suc, _+_, _-_, _*_, _%_, _<_, _≤_, _^_, min}
 use mathlib.Core.Path.{_≡_}
@@ -14,19 +14,25 @@ use Rattle.numbers.specs.Complex.{addF, subF, mulF, divF, zeroF, oneF, zeroNumb
 use Rattle.lattice.specs.declared.grid.Grid3d.{Grid3d}
 use Rattle.lattice.specs.declared.grid.Position.{Position}
 use Rattle.lattice.specs.Grid.{nOf, nextAxis, lastAxis, placeOn, movedTo, atOf, Inside}
-use Rattle.lattice.specs.Lattice.{Medium, edgesOf, isWall, tabulate}
+use Rattle.lattice.specs.Lattice.{FullLattice, edgesOf, isWall}
+use Rattle.numbers.specs.Lists.{tabulate, Rises, summed, each, laid, laidBy}
 use Rattle.lattice.specs.declared.levels.Three.{Three}
 use Rattle.lattice.specs.declared.line.Line.{Line}
-use Rattle.lattice.specs.Line.{endsOf, nodesOf, Held, Rises}
-use Rattle.lattice.specs.Rows.{summed}
-use Rattle.lattice.specs.Terms.{each}
+use Rattle.lattice.specs.Line.{endsOf, nodesOf, Held}
 use Rattle.weights.specs.TwoLevels.{TwoLevels, fineLine, coarseLine, fineCells, coarseCells, nodeOn, fineGrid, coarseGrid}
 use Rattle.weights.specs.Interpolate.{whole}
-use Rattle.weights.specs.Lists.{laid, laidBy}
-use Rattle.weights.specs.Tables.{cellFirst, cellLast, Paired}
+use Rattle.weights.specs.Tables.{cellFirst, cellLast, Paired, nodeCount}
 use Rattle.weights.specs.CoarseEps.{edgesAlong, inverted}
+use Rattle.operators.specs.declared.averaged.Counts.{Counts}
 use Rattle.operators.specs.declared.averaged.Hat.{Hat}
 use Rattle.operators.specs.declared.averaged.Weighed.{Weighed}
+
+-- 128 places for the hats of each node of each axis, and their counts
+abbrev pub hatPlaces : ℕ
+hatPlaces = 24576
+
+abbrev pub hatCounts : ℕ
+hatCounts = 192
 
 -- Hat: a fine node around a coarse one, and its weight. Weighed: the sum so far and the weights so far.
 
@@ -59,7 +65,7 @@ hatPlace cs m = getD cs (cond (eqb m 0) (length cs - 1) m) 0
 unfoldable pub nodeBefore : List ℕ → ℕ → ℕ
 nodeBefore cs m = cond (eqb m 0) (length cs - 1 - 1) (m - 1)
 
--- the nodes below coarse node m, back to the coarse node before it; none before a wall. es is the fine line, cs the coarse one
+-- the fine nodes between coarse node m and its lower neighbour; at a wall node 0 has none. es is the fine line, cs the coarse one
 unfoldable pub lowerHats : Bool → List ℕ → List ℕ → ℕ → List Hat
 lowerHats wall es cs m =
     cond (eqb m 0 && wall)
@@ -70,7 +76,7 @@ lowerHats wall es cs m =
 unfoldable pub hatAbove : List ℕ → ℕ → ℕ → ℕ → Hat
 hatAbove es at width q = record { node = q; weight = hatWeight (getD es q 0 - at) width }
 
--- the nodes above it, up to the coarse node after it
+-- those between it and its upper neighbour
 unfoldable pub upperHats : List ℕ → List ℕ → ℕ → List Hat
 upperHats es cs m =
     tabulate (hatAbove es (getD cs m 0) (getD cs (m + 1) 0 - getD cs m 0)) (min (nodeIn es cs (m + 1)) (length es - 1) - (nodeIn es cs m + 1))
@@ -86,6 +92,10 @@ around wall es cs m = lowerHats wall es cs m ++ (record { node = nodeIn es cs m;
 unfoldable pub lineEdges : Grid3d → Position → ℕ → ℕ → Hat → Hat → List ℕ
 lineEdges g p first n h k =
     edgesAlong g (movedTo (movedTo p (nextAxis (p .component)) (h .node)) (lastAxis (p .component)) (k .node)) first n
+
+-- those on the lines through one hat and each of a list
+abbrev pub hatEdges : Grid3d → Position → ℕ → ℕ → List Hat → Hat → List ℕ
+hatEdges g p first n ks h = each (lineEdges g p first n h) ks
 
 -- weight times count over the sum of inverses
 unfoldable pub lineMean : (ℕ → C64) → Float → List ℕ → C64
@@ -138,7 +148,7 @@ averagedEps t f r = averagedAt t f (atOf (coarseGrid t) r)
 
 -- the edges whose permittivities it reads
 unfoldable pub hatLines : TwoLevels → Position → Hat → List ℕ
-hatLines t p h = each (lineEdges (fineGrid t) p (cellStart t p) (cellCount t p) h) (hatsOn t p (lastAxis (p .component)))
+hatLines t p h = hatEdges (fineGrid t) p (cellStart t p) (cellCount t p) (hatsOn t p (lastAxis (p .component))) h
 
 unfoldable pub averagedReads : TwoLevels → ℕ → List ℕ
 averagedReads t r =
@@ -169,9 +179,9 @@ hatsIn ns ws k n = tabulate (hatAt ns ws) n k
 
 -- the hats around node m of axis a have 128 places from 128 (64 a + m) on; cs has their counts
 pub record Hats (t : TwoLevels) (ns : List ℕ) (ws : List Float) (cs : List ℕ) : Type 0 where
-  pub nodes-long : length ns ≡ 24576
-  pub weights-long : length ws ≡ 24576
-  pub counts-long : length cs ≡ 192
+  pub nodes-long : length ns ≡ hatPlaces
+  pub weights-long : length ws ≡ hatPlaces
+  pub counts-long : length cs ≡ hatCounts
   pub counts-few : (a m : ℕ) → a < 3 → m < coarseCells t a → getD cs (64 * a + m) 0 ≤ 127
   pub hats-are : (a m : ℕ) → a < 3 → m < coarseCells t a
       → hatsIn ns ws (128 * (64 * a + m)) (getD cs (64 * a + m) 0) ≡ hatsAround t a m
@@ -200,8 +210,13 @@ pub record LinePair (f c : Line) : Type 0 where
   pub ended : (m : ℕ) → m ≤ c .cells → nodeIn (endsOf f) (endsOf c) m ≤ f .cells
   pub last : getD (c .ends) (c .cells) 0 ≤ getD (f .ends) (f .cells) 0
 
+-- the numbers on a fine line of the nodes of a coarse line of n cells stand in a list from place o on
+pub record NodesFrom (es cs : List ℕ) (n : ℕ) (nn : List ℕ) (o : ℕ) : Type 0 where
+  pub room : o + n < length nn
+  pub each-is : (m : ℕ) → m ≤ n → getD nn (o + m) 0 ≡ nodeIn es cs m
+
 -- the lines of two levels, whose nodes are nested
-pub record PairedLines (l : Medium) (fine coarse : Three) : Type 0 where
+pub record PairedLines (l : FullLattice) (fine coarse : Three) : Type 0 where
   pub paired : Paired l fine coarse
   pub x-pair : LinePair (fine .x) (coarse .x)
   pub y-pair : LinePair (fine .y) (coarse .y)
@@ -213,6 +228,13 @@ pub record HatsFit (b j n : ℕ) (ns : List ℕ) (ws : List Float) : Type 0 wher
   pub weights-room : j + n ≤ length ws
   pub low : j + n ≤ 2 ^ 32
   pub nodes-in : (q : ℕ) → q < n → getD ns (j + q) 0 < b
+
+-- the hats around the node of p on the axes across its component: those of the next axis from place 0 on, those of the last from place 128 on
+pub record HatsAcross (t : TwoLevels) (p : Position) (ns : List ℕ) (ws : List Float) (k : Counts) : Type 0 where
+  pub next-are : hatsIn ns ws 0 (k .next) ≡ hatsOn t p (nextAxis (p .component))
+  pub last-are : hatsIn ns ws 128 (k .last) ≡ hatsOn t p (lastAxis (p .component))
+  pub next-fit : HatsFit (nOf (fineGrid t) (nextAxis (p .component))) 0 (k .next) ns ws
+  pub last-fit : HatsFit (nOf (fineGrid t) (lastAxis (p .component))) 128 (k .last) ns ws
 
 -- the mean from the lists: the nodes nn, 65 for each axis, and the hats
 unfoldable pub hatsBy : List ℕ → List Float → List ℕ → Position → ℕ → List Hat
@@ -230,8 +252,8 @@ averagedNo gf gc nn ns ws cs f r = averagedIn gf nn ns ws cs f (atOf gc r)
 pub record AverageReady (g : Grid3d) (p : Position) (nn ns : List ℕ) (ws : List Float) (cs : List ℕ) : Type 0 where
   pub c-in : p .component < 3
   pub places : (a : ℕ) → placeOn p a < 64
-  pub nodes-long : length nn ≡ 195
-  pub counts-long : length cs ≡ 192
+  pub nodes-long : length nn ≡ nodeCount
+  pub counts-long : length cs ≡ hatCounts
   pub cell-rises : cellFirst nn p ≤ cellLast nn p
   pub cell-in : cellLast nn p ≤ nOf g (p .component)
   pub hats-fit : (a : ℕ) → a < 3 → HatsFit (nOf g a) (128 * (64 * a + placeOn p a)) (getD cs (64 * a + placeOn p a) 0) ns ws

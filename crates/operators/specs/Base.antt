@@ -1,15 +1,16 @@
 -- Level 0's relations of an axis of n cells (docs/SPECIFICATION.md, 9): wrapped if it is Bloch's, and with place 0 of the role across held fixed if
 -- it is a wall's.
 -- Assumes nothing.
-use Prim.Native.Nat.{ℕ, _+_, _*_, _/_, _%_, _<_, _≤_}
+use Prim.Native.Nat.{ℕ, _+_, _/_, _%_, _<_, _≤_}
 use mathlib.Core.List.{List}
 use mathlib.Core.Path.{_≡_}
 use mathlib.Core.Bool.{Bool, true, false, not, _&&_, _||_}
 use lib.ListN.{length, getD}
 use lib.Dec.{eqb, ltb}
+use Rattle.numbers.specs.Lists.{tabulate}
 use Rattle.operators.specs.Relation.{Rel}
 use Rattle.operators.specs.Pattern.{Role, along, across, Name, same, near, up, down}
-use Rattle.operators.specs.Bits.{bitAt}
+use Rattle.operators.specs.Bits.{single, gathered}
 use Rattle.operators.specs.Numbered.{nameNo}
 
 -- not held fixed
@@ -29,15 +30,13 @@ baseOf n bloch (near r) i j = (liveAt bloch r i && liveAt bloch r j) && (eqb i j
 baseOf n bloch up i j = liveAt bloch across j && (eqb i j || follows n bloch i j)
 baseOf n bloch down i j = liveAt bloch across i && (eqb i j || follows n bloch j i)
 
--- w has the places of r at i, below n
-pub record Word (r : Rel) (i n w : ℕ) : Type 0 where
-  pub bits : (j : ℕ) → bitAt w j ≡ (ltb j n && r i j)
+-- the word of relation number w at place i: the places below n that it is related to
+unfoldable pub baseWord : ℕ → Bool → ℕ → ℕ → ℕ
+baseWord n bloch w i = gathered n (baseOf n bloch (nameNo w) i) single
 
--- the m words from at on are those of r, with n places each, and those before them are as they were
-pub record Words (r : Rel) (n at m : ℕ) (xs ys : List ℕ) : Type 0 where
-  pub long : length ys ≡ length xs
-  pub inside : (i : ℕ) → i < m → Word r i n (getD ys (at + i) 0)
-  pub before : (i : ℕ) → i < at → getD ys i 0 ≡ getD xs i 0
+-- the words of relation number q of the three axes, one for each of its axis's cells
+unfoldable pub baseWords : List ℕ → List Bool → ℕ → List ℕ
+baseWords n bloch q = tabulate (baseWord (getD n (q / 6) 0) (getD bloch (q / 6) false) (q % 6)) (getD n (q / 6) 0) 0
 
 -- what `fill_base` is given: three cells and three kinds of axis, and room for eighteen relations
 pub record Sizes (n : List ℕ) (bloch : List Bool) (t : List ℕ) : Type 0 where
@@ -45,9 +44,3 @@ pub record Sizes (n : List ℕ) (bloch : List Bool) (t : List ℕ) : Type 0 wher
   pub kinds : length bloch ≡ 3
   pub many : length t ≡ 1152
   pub small : (d : ℕ) → d < 3 → getD n d 0 ≤ 64
-
--- the first q relations are level 0's
-pub record Based (n : List ℕ) (bloch : List Bool) (q : ℕ) (t : List ℕ) : Type 0 where
-  pub long : length t ≡ 1152
-  pub is : (p i : ℕ) → p < q → i < getD n (p / 6) 0
-      → Word (baseOf (getD n (p / 6) 0) (getD bloch (p / 6) false) (nameNo (p % 6))) i (getD n (p / 6) 0) (getD t (64 * p + i) 0)

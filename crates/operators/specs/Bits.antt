@@ -1,9 +1,11 @@
 -- A set of at most 64 places as the bits of a word (docs/SPECIFICATION.md, 9).
 -- Assumes nothing.
-use Prim.Native.Nat.{ℕ, _/_, _%_, _^_}
-use mathlib.Core.Bool.{Bool, cond}
+use Prim.Native.Nat.{ℕ, zero, suc, _/_, _%_, _^_}
+use mathlib.Core.Bool.{Bool, true, cond}
+use mathlib.Core.List.{List}
 use lib.Dec.{eqb}
 use lib.Bits.{bitOr}
+use lib.ListN.{length, getD}
 
 -- place k is in the set
 unfoldable pub bitAt : ℕ → ℕ → Bool
@@ -12,3 +14,16 @@ bitAt w k = eqb (w / 2 ^ k % 2) 1
 -- the places of t if a, with those of s if b
 unfoldable pub mixOf : Bool → ℕ → Bool → ℕ → ℕ
 mixOf a t b s = bitOr (cond a t 0) (cond b s 0)
+
+-- the set of place k alone
+abbrev pub single : ℕ → ℕ
+single k = 2 ^ k
+
+-- the union of those of the words w 0, .., w (n - 1) that p takes
+unfoldable pub gathered : ℕ → (ℕ → Bool) → (ℕ → ℕ) → ℕ
+gathered zero p w = 0
+gathered (suc n) p w = mixOf true (gathered n p w) (p n) (w n)
+
+-- the set of some places
+unfoldable pub setOf : List ℕ → ℕ
+setOf ms = gathered (length ms) (λ k. true) (λ k. single (getD ms k 0))

@@ -1,21 +1,26 @@
 -- Galerkin's operator rows (docs/SPECIFICATION.md, 9): over the turned row, the fine row by column and the forward row, (weight × value) × weight,
 -- summed by column from +0; an untouched diagonal is 1. A, P and R give the rows of the fine operator, of the prolongation and of its transpose.
 -- Assumes nothing.
-use Prim.Native.Nat.{ℕ, _+_, _-_, _<_, _≤_, _^_}
+use Prim.Native.Nat.{ℕ, _+_, _-_, _*_, _<_, _≤_, _^_}
 use mathlib.Core.Path.{_≡_}
-use mathlib.Core.Bool.{true, cond}
+use mathlib.Core.Logic.{_≢_}
+use mathlib.Core.Bool.{Bool, true, cond}
 use mathlib.Core.List.{List, [], _∷_}
 use lib.Dec.{eqb}
-use lib.ListN.{length, getD}
+use lib.ListN.{length, getD, replicate}
 use lib.Ieee.{Float}
 use Rattle.numbers.specs.declared.C64.{C64}
-use Rattle.numbers.specs.Complex.{oneNumber, zeroNumber, product}
+use Rattle.numbers.specs.Complex.{zeroF, oneNumber, zeroNumber, product}
 use Rattle.numbers.specs.Places.{places, numberAt, setNumber}
-use Rattle.lattice.specs.Terms.{Term, columnsOf, each}
-use Rattle.lattice.specs.Lattice.{tabulate}
-use Rattle.weights.specs.Transfer.{contains, numbersOf, startOf, storedRow}
-use Rattle.operators.specs.declared.galerkin.Part.{Part}
-use Rattle.operators.specs.Collect.{inserted, collected, atFirst, fromZero, summedAt}
+use Rattle.numbers.specs.Terms.{Term, columnsOf, numbersOf, storedRow, Stored, mostRows}
+use Rattle.numbers.specs.Lists.{each, tabulate, rows, laidNumbers, allFinite, contains, startOf}
+use Rattle.lattice.specs.Grid.{unknownsOf, Limits}
+use Rattle.lattice.specs.Lattice.{FullLattice}
+use Rattle.numbers.specs.declared.terms.Part.{Part}
+use Rattle.operators.specs.declared.galerkin.FineRows.{FineRows}
+use Rattle.operators.specs.declared.galerkin.FineRows.the-variants.{Computed, Stored as StoredFrom}
+use Rattle.operators.specs.Stencil.{stencilRow}
+use Rattle.numbers.specs.Collect.{inserted, collected, atFirst, fromZero, summedAt}
 
 -- (weight × value) × weight: turned, fine and forward
 unfoldable pub forwardTerm : C64 → C64 → Term → List Term
@@ -59,7 +64,80 @@ forwardRowsRead A R c = each (columnsAt A) (fineRowsRead R c)
 abbrev pub rowsIn : Part → List ℕ → List ℕ → List Float → ℕ → List Term
 rowsIn p starts cs xs = storedRow starts (p .s) cs xs (p .k)
 
+-- ---- what a row is worked out from
+
+-- the rows of the fine operator: the lattice's own, or those that stand in lists from a part on; f reads the permittivities
+unfoldable pub fineRow : FineRows → FullLattice → (ℕ → C64) → List ℕ → List ℕ → List Float → ℕ → List Term
+fineRow Computed l f starts cs xs = stencilRow l f
+fineRow (StoredFrom o) l f starts cs xs = rowsIn o starts cs xs
+
+-- n rows can be worked out: as many as the lattice has edges, with a permittivity for each
+pub record Computable (l : FullLattice) (eps : List Float) (n : ℕ) : Type 0 where
+  pub limits : Limits (l .grid)
+  pub edges : n ≡ unknownsOf (l .grid)
+  pub room : 2 * n ≤ length eps
+
+-- there are n rows of the fine operator
+pub record FineReady (fine : FineRows) (l : FullLattice) (eps : List Float) (starts cs : List ℕ) (xs : List Float) (n : ℕ) : Type 0 where
+  pub computed : fine ≡ Computed → Computable l eps n
+  pub stored : (f : Part) → fine ≡ StoredFrom f → Stored starts (f .s) cs xs (f .k) n n
+
+-- the terms of those that stand in lists end before part o begins
+pub record FineBefore (fine : FineRows) (starts : List ℕ) (n : ℕ) (o : Part) : Type 0 where
+  pub ends : (f : Part) → fine ≡ StoredFrom f → f .k + getD starts (f .s + n) 0 ≤ o .k
+
+-- a transfer stands in lists: n forward rows from p on, m turned rows from t on
+pub record TransferStored (p : Part) (ss cs : List ℕ) (xs : List Float) (t : Part) (ts us : List ℕ) (ys : List Float) (n m : ℕ) : Type 0 where
+  pub forward : Stored ss (p .s) cs xs (p .k) n m
+  pub turned : Stored ts (t .s) us ys (t .k) m n
+
+-- row c is one of those that stand in lists from a part on
+pub record HasRow (p : Part) (starts cs : List ℕ) (xs : List Float) (c : ℕ) : Type 0 where
+  pub n : ℕ
+  pub m : ℕ
+  pub stored : Stored starts (p .s) cs xs (p .k) n m
+  pub low : c < n
+
+-- so is each of those whose numbers stand in another list, count of them from place k on
+pub record HasRows (p : Part) (starts cs : List ℕ) (xs : List Float) (ds : List ℕ) (k count : ℕ) : Type 0 where
+  pub each-there : (q : ℕ) → q < count → HasRow p starts cs xs (getD ds (k + q) 0)
+
+-- what is read: fine rows, whose lists are os, oc and ox, and forward rows
+module _ (fine : FineRows) (l : FullLattice) (eps : List Float) (os oc : List ℕ) (ox : List Float) (p : Part) (ss cs : List ℕ) (xs : List Float) where
+  -- for fine row r
+  pub record FineGiven (r : ℕ) : Type 0 where
+    pub n : ℕ
+    pub m : ℕ
+    pub ready : FineReady fine l eps os oc ox n
+    pub forward : Stored ss (p .s) cs xs (p .k) n m
+    pub low : r < n
+
+  -- and turned rows
+  module _ (t : Part) (ts us : List ℕ) (ys : List Float) where
+    -- for row c
+    pub record TurnedGiven (c : ℕ) : Type 0 where
+      pub n : ℕ
+      pub m : ℕ
+      pub ready : FineReady fine l eps os oc ox n
+      pub transfer : TransferStored p ss cs xs t ts us ys n m
+      pub low : c < m
+
+    -- for all m rows; fine rows that are read stand before part o
+    pub record RowsGiven (m : ℕ) (o : Part) : Type 0 where
+      pub n : ℕ
+      pub ready : FineReady fine l eps os oc ox n
+      pub before : FineBefore fine os n o
+      pub transfer : TransferStored p ss cs xs t ts us ys n m
+
+-- the doubles of a sum for each column
+abbrev pub sumDoubles : ℕ
+sumDoubles = 24576
+
 -- ---- how a row is worked out: a sum for each column, in a list of doubles
+
+-- the sums of no terms: +0 for each of the edges that a level can have
+unfoldable pub noSums : List Float
+noSums = replicate sumDoubles zeroF
 
 -- a term, times a number
 unfoldable pub scaledTerm : C64 → Term → List Term
@@ -70,10 +148,11 @@ pub record Gathered (ts : List Term) (xs ys : List Float) : Type 0 where
   pub long : length ys ≡ length xs
   pub sums : (d : ℕ) → d < places xs → numberAt ys d ≡ summedAt d (numberAt xs d) ts
 
--- the sums at the n columns that stand in a list from place k on are +0
+-- the sums at the n columns that stand in a list from place k on are +0, the others as they were
 pub record Cleared (cs : List ℕ) (k n : ℕ) (xs ys : List Float) : Type 0 where
   pub long : length ys ≡ length xs
   pub zeros : (m : ℕ) → m < n → getD cs (k + m) 0 < places xs → numberAt ys (getD cs (k + m) 0) ≡ zeroNumber
+  pub kept : (d : ℕ) → ((m : ℕ) → m < n → d ≢ getD cs (k + m) 0) → numberAt ys d ≡ numberAt xs d
 
 -- the sums at the n columns that stand in a list from place k on
 unfoldable pub sumOf : List ℕ → List Float → ℕ → C64
@@ -96,7 +175,7 @@ pub record Columned (row : ℕ → List ℕ) (m : ℕ) (o : Part) (starts cs : L
   pub starts-are : (c : ℕ) → c ≤ m → getD starts (o .s + c) 0 ≡ startOf row c
   pub columns-room : o .k + startOf row m ≤ length cs
   pub columns-are : (c q : ℕ) → c < m → q < length (row c) → getD cs (o .k + startOf row c + q) 0 ≡ getD (row c) q 0
-  pub columns-low : (c q : ℕ) → c < m → q < length (row c) → getD (row c) q 0 < 12288
+  pub columns-low : (c q : ℕ) → c < m → q < length (row c) → getD (row c) q 0 < mostRows
   pub starts-low : o .s ≤ 2 ^ 32
   pub low : o .k ≤ 2 ^ 32
   pub all-few : startOf row m ≤ 2 ^ 32
@@ -108,3 +187,27 @@ pub record Met (A P R : ℕ → List Term) (c : ℕ) : Type 0 where
 
 pub record MetAll (A P R : ℕ → List Term) (m : ℕ) : Type 0 where
   pub each-met : (c : ℕ) → c < m → Met A P R c
+
+-- ---- a row and all rows, laid
+
+-- row c can be laid: the columns of all rows, m of them, stand in two lists from part o on
+pub record RowReady (A P R : ℕ → List Term) (c : ℕ) (o : Part) (starts cs : List ℕ) : Type 0 where
+  pub m : ℕ
+  pub columned : Columned (galerkinColumns A P R) m o starts cs
+  pub met : Met A P R c
+  pub low : c < m
+
+-- the values with the numbers of row c at its place
+unfoldable pub rowLaid : (ℕ → List Term) → (ℕ → List Term) → (ℕ → List Term) → ℕ → Part → List Float → List Float
+rowLaid A P R c o xs = laidNumbers xs (o .k + startOf (galerkinColumns A P R) c) (galerkinNumbers A P R c)
+
+-- all m rows can be laid
+pub record RowsReady (A P R : ℕ → List Term) (m : ℕ) (o : Part) (starts cs : List ℕ) (xs : List Float) : Type 0 where
+  pub columned : Columned (galerkinColumns A P R) m o starts cs
+  pub met : MetAll A P R m
+  pub room : 2 * (o .k + getD starts (o .s + m) 0) ≤ length xs
+
+-- they have been laid over the values, and b says whether all numbers are finite
+pub record NumbersLaid (A P R : ℕ → List Term) (m : ℕ) (o : Part) (xs xs′ : List Float) (b : Bool) : Type 0 where
+  pub list : xs′ ≡ laidNumbers xs (o .k) (rows (galerkinNumbers A P R) m)
+  pub finite : b ≡ allFinite (rows (galerkinNumbers A P R) m)

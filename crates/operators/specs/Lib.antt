@@ -6,7 +6,6 @@ pub mod Columns
 pub mod Compose
 pub mod Numbered
 pub mod Base
-pub mod Collect
 pub mod Stencil
 pub mod Galerkin
 pub mod Averaged

@@ -5,15 +5,20 @@ use Prim.Native.Nat.{ℕ, zero, suc, _+_, _-_, _*_, _/_, _%_, _<_, _≤_}
 use mathlib.Core.Path.{_≡_}
 use mathlib.Core.List.{List, [], _∷_}
 use mathlib.Core.Bool.{Bool, true, false, cond}
-use lib.ListN.{length, getD}
+use lib.ListN.{length, getD, replicate}
 use lib.Dec.{eqb, ltb}
 use Rattle.lattice.specs.declared.grid.Grid3d.{Grid3d}
 use Rattle.lattice.specs.declared.grid.Position.{Position}
-use Rattle.operators.specs.Relation.{Rel}
+use Rattle.numbers.specs.Lists.{tabulate, laid}
 use Rattle.operators.specs.Pattern.{Role, along, across, Name, same, near, up, down, Ladder, rel}
 use Rattle.operators.specs.Columns.{row}
 use Rattle.operators.specs.declared.columns.Picks.{Picks}
-use Rattle.operators.specs.Compose.{table, composed}
+use Rattle.operators.specs.Compose.{table, wordsAt, composedWord}
+use Rattle.weights.specs.Tables.{allSlots}
+
+-- eighteen relations of 64 words
+abbrev pub wordCount : ℕ
+wordCount = 1152
 
 -- relation number w
 abbrev pub nameNo : ℕ → Name
@@ -69,25 +74,33 @@ rowColumns t g fixed r p =
     (picksOf t (p .component) 2 (p .i) (p .j) (p .k))
     (g .nx) (g .ny) (g .nz))
 
--- relation number q one level down
-unfoldable pub below : List ℕ → List ℕ → List ℕ → ℕ → Rel
-below t f n q = composed (getD n (q / 6) 0) (table f (64 * (2 * (q / 6) + q % 6 % 2))) (table t (64 * q)) (table f (64 * (2 * (q / 6) + columnNo (q % 6))))
+-- the words w q of each of the first m relations laid over a list, those of relation q from 64 * q on
+unfoldable pub relationsLaid : (ℕ → List ℕ) → ℕ → List ℕ → List ℕ
+relationsLaid w zero xs = xs
+relationsLaid w (suc q) xs = laid (relationsLaid w q xs) (64 * q) (w q)
+
+-- a list of eighteen relations without a word
+abbrev pub noRelations : List ℕ
+noRelations = replicate wordCount 0
+
+-- the words of relation number q one level down, for m cells: t has a level's relations, f the words of its weights' places, n its cells
+unfoldable pub wordsBelow : List ℕ → List ℕ → List ℕ → List ℕ → ℕ → List ℕ
+wordsBelow t f n m q =
+    tabulate
+    (composedWord (getD n (q / 6) 0)
+    (wordsAt f (64 * (2 * (q / 6) + q % 6 % 2))) (wordsAt t (64 * q)) (wordsAt f (64 * (2 * (q / 6) + columnNo (q % 6)))))
+    (getD m (q / 6) 0) 0
 
 -- what `coarsen` is given: a level's relations t, the words f of its weights' places, role r of axis d from 64 * (2 * d + r) on, the cells n and m of
 -- the level and of the next, and room for the next level's relations
 pub record Ready (t f n m out : List ℕ) : Type 0 where
-  pub fine : length t ≡ 1152
-  pub weights : length f ≡ 384
-  pub coarse : length out ≡ 1152
+  pub fine : length t ≡ wordCount
+  pub weights : length f ≡ allSlots
+  pub coarse : length out ≡ wordCount
   pub axes : length n ≡ 3
   pub axes-below : length m ≡ 3
   pub small : (d : ℕ) → d < 3 → getD n d 0 ≤ 64
   pub small-below : (d : ℕ) → d < 3 → getD m d 0 ≤ 64
-
--- the first q relations of `out` are those one level down
-pub record Done (t f n m : List ℕ) (q : ℕ) (out : List ℕ) : Type 0 where
-  pub long : length out ≡ 1152
-  pub is : (p i j : ℕ) → p < q → i < getD m (p / 6) 0 → table out (64 * p) i j ≡ below t f n p i j
 
 -- the list has level L's relations
 pub record Right (M : Ladder) (L : ℕ) (t : List ℕ) : Type 0 where

@@ -10,17 +10,17 @@ use Rattle.numbers.specs.declared.C64.{C64}
 use Rattle.numbers.specs.Complex.{oneF, zeroNumber, oneNumber, sum, product, realOver, realTimes, finite, isZero}
 use Rattle.lattice.specs.declared.grid.Position.{Position}
 use Rattle.lattice.specs.Grid.{stepOf, placeOn, atOf}
-use Rattle.lattice.specs.Lattice.{Medium, nodesAt, halvesAt}
-use Rattle.lattice.specs.Terms.{Term}
+use Rattle.lattice.specs.Lattice.{FullLattice, nodesAt, halvesAt}
+use Rattle.numbers.specs.Terms.{Term, mostRows}
 
 -- a side of an edge's cell: along its component the cell's length, across it the width of the node's dual cell
-unfoldable pub sideOf : Medium → Position → ℕ → C64
+unfoldable pub sideOf : FullLattice → Position → ℕ → C64
 sideOf l p a = realTimes (stepOf (l .grid) a) (cond (eqb a (p .component)) (halvesAt l a (placeOn p a)) (nodesAt l a (placeOn p a)))
 
-unfoldable pub volumeAt : Medium → Position → C64
+unfoldable pub volumeAt : FullLattice → Position → C64
 volumeAt l p = product (product (product oneNumber (sideOf l p 0)) (sideOf l p 1)) (sideOf l p 2)
 
-unfoldable pub volumeOf : Medium → ℕ → C64
+unfoldable pub volumeOf : FullLattice → ℕ → C64
 volumeOf l r = volumeAt l (atOf (l .grid) r)
 
 -- a coarse edge's share of the fine volumes: its turned row times them, from s on
@@ -50,5 +50,5 @@ sharesFinite R v (suc n) = sharesFinite R v n && shareFinite R v n
 -- the volumes at the columns from place first up to last stand in a list from place k on
 pub record SharesRoom (cs : List ℕ) (first last : ℕ) (xs : List Float) (k : ℕ) : Type 0 where
   pub column-in : (q : ℕ) → first ≤ q → q < last → 2 * (k + getD cs q 0) + 1 < length xs
-  pub column-low : (q : ℕ) → first ≤ q → q < last → getD cs q 0 ≤ 12288
+  pub column-low : (q : ℕ) → first ≤ q → q < last → getD cs q 0 ≤ mostRows
   pub low : k ≤ 2 ^ 32

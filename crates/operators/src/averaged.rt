@@ -1,16 +1,18 @@
 // The permittivities of a rediscretized level from those of the level before.
 
 ghost use mathlib.Core.Path.{_≡_};
-ghost use mathlib.Core.List.{[], _∷_, _++_};
+ghost use mathlib.Core.List.{[], _∷_};
 ghost use Prim.Native.Nat.{ℕ, _+_, _-_, _*_, _<_, _≤_, _^_};
-ghost use lib.ListN.{length, getD, replicate};
-ghost use Rattle.lattice.specs.Grid.{nOf, nextAxis, lastAxis, unknownsOf, Limits, Inside};
-ghost use Rattle.lattice.specs.Lattice.{medium, tabulate};
-ghost use Rattle.lattice.specs.Line.{endsOf, nodesOf, Held, Rises};
-ghost use Rattle.weights.specs.Lists.{laidNumbers, allFinite};
-ghost use Rattle.weights.specs.TwoLevels.{twoOf, fineGrid, coarseGrid};
-ghost use Rattle.weights.specs.Tables.{readFrom, ChainRoom};
-ghost use Rattle.operators.specs.Averaged.{hatWeight, wrappedPlace, walk, hatAbove, lowerHats, around, weighLine, weighLines, weighAll, nothing, averagedEps, hatAt, hatsIn, HatsLaid, AxisHats, Hats, LinePair, PairedLines, HatsFit, averagedIn, averagedNo, AverageReady, AveragesReady};
+ghost use lib.ListN.{length, getD};
+ghost use Rattle.lattice.specs.Grid.{axis3, nOf, nextAxis, lastAxis, movedTo, unknownsOf, Limits, Inside};
+ghost use Rattle.lattice.specs.Lattice.{fullLattice};
+ghost use Rattle.numbers.specs.Complex.{finite};
+ghost use Rattle.numbers.specs.Places.{setNumber};
+ghost use Rattle.numbers.specs.Lists.{tabulate, each, laidNumbers, allFinite, readFrom, anyFlag};
+ghost use Rattle.lattice.specs.Line.{endsOf, Held};
+ghost use Rattle.weights.specs.TwoLevels.{twoOf, coarseCells, fineGrid, coarseGrid};
+ghost use Rattle.weights.specs.Tables.{nodeNo, ChainRoom, nodeCount};
+ghost use Rattle.operators.specs.Averaged.{hatWeight, wrappedPlace, walk, hatAbove, lowerHats, around, hatsAround, lineEdges, hatEdges, weighLine, weighLines, weighAll, nothing, averagedEps, averagedReads, hatAt, hatsIn, HatsLaid, NodesFrom, AxisHats, Hats, HatsAcross, LinePair, PairedLines, HatsFit, averagedIn, averagedNo, AverageReady, AveragesReady, hatCounts, hatPlaces};
 use lattice::grid;
 use lattice::grid::Grid3d;
 use lattice::grid::Position;
@@ -19,9 +21,14 @@ use lattice::levels::Three;
 use lattice::line;
 use lattice::line::Line;
 use numbers::C64;
+use numbers::lists;
 use weights::eps;
-use weights::lists;
 use weights::tables;
+
+// 128 places for the hats of each node of each axis.
+pub const HAT_PLACES: usize = 24576;
+// Their counts.
+pub const HAT_COUNTS: usize = 192;
 
 // A fine node around a coarse one, and its weight.
 pub struct Hat {
@@ -33,6 +40,12 @@ pub struct Hat {
 pub struct Weighed {
     pub total: C64,
     pub weight: f64,
+}
+
+// How many hats stand around an edge's node on the axes across its component: the next and the last.
+pub struct Counts {
+    pub next: usize,
+    pub last: usize,
 }
 
 // 1 less the distance over the width.
@@ -131,11 +144,12 @@ fn push_upper(
     k
 }
 
-// The nodes below coarse node m; none before a wall. nn has the number on the fine line of each coarse node.
+// The nodes below coarse node m; none before a wall. nn has the number on the fine line of each coarse node, from place o on.
 fn push_lower(
     f: Line,
     c: Line,
-    nn: [usize; 65],
+    nn: &[usize],
+    o: usize,
     wall: bool,
     m: usize,
     nodes: &mut [usize],
@@ -143,7 +157,7 @@ fn push_lower(
     from: usize,
 ) -> usize
     requires { ⌜ LinePair f c ⌝ }
-    requires { ⌜ nn ≡ nodesOf (endsOf f) (endsOf c) ++ replicate (64 - c .cells) 0 ⌝ }
+    requires { ⌜ NodesFrom (endsOf f) (endsOf c) (c .cells) (now nn) o ⌝ }
     requires { ⌜ (m < c .cells) × (from < 2 ^ 30) ⌝ }
     ensures { λ r. ⌜ HatsLaid (now (nodes .entry)) (now (weights .entry)) from (lowerHats wall (endsOf f) (endsOf c) m) (now (nodes .exit)) (now (weights .exit)) r ⌝ }
 {
@@ -157,7 +171,7 @@ fn push_lower(
             f,
             at,
             at - c.ends[n - 1],
-            nn[n - 1] + 1,
+            nn[o + n - 1] + 1,
             nodes,
             weights,
             from,
@@ -168,7 +182,7 @@ fn push_lower(
         f,
         at,
         at - c.ends[m - 1],
-        nn[m - 1] + 1,
+        nn[o + m - 1] + 1,
         nodes,
         weights,
         from,
@@ -179,7 +193,8 @@ fn push_lower(
 fn push_around(
     f: Line,
     c: Line,
-    nn: [usize; 65],
+    nn: &[usize],
+    o: usize,
     wall: bool,
     m: usize,
     nodes: &mut [usize],
@@ -187,13 +202,13 @@ fn push_around(
     from: usize,
 ) -> usize
     requires { ⌜ LinePair f c ⌝ }
-    requires { ⌜ nn ≡ nodesOf (endsOf f) (endsOf c) ++ replicate (64 - c .cells) 0 ⌝ }
+    requires { ⌜ NodesFrom (endsOf f) (endsOf c) (c .cells) (now nn) o ⌝ }
     requires { ⌜ (m < c .cells) × (from < 2 ^ 20) ⌝ }
     ensures { λ r. ⌜ HatsLaid (now (nodes .entry)) (now (weights .entry)) from (around wall (endsOf f) (endsOf c) m) (now (nodes .exit)) (now (weights .exit)) r ⌝ }
 {
-    let k = push_lower(f, c, nn, wall, m, nodes, weights, from);
+    let k = push_lower(f, c, nn, o, wall, m, nodes, weights, from);
     let own = Hat {
-        node: nn[m],
+        node: nn[o + m],
         weight: 1.0,
     };
     let k1 = push_hat(own, nodes, weights, k);
@@ -202,8 +217,8 @@ fn push_around(
         f,
         at,
         c.ends[m + 1] - at,
-        nn[m] + 1,
-        nn[m + 1],
+        nn[o + m] + 1,
+        nn[o + m + 1],
         nodes,
         weights,
         k1,
@@ -222,14 +237,14 @@ fn axis_hats(
 )
     requires { ⌜ LinePair f c ⌝ }
     requires { ⌜ axis < 3 ⌝ }
-    requires { ⌜ (length (now nodes) ≡ 24576) × (length (now weights) ≡ 24576) × (length (now counts) ≡ 192) ⌝ }
+    requires { ⌜ (length (now nodes) ≡ hatPlaces) × (length (now weights) ≡ hatPlaces) × (length (now counts) ≡ hatCounts) ⌝ }
     ensures { λ _. ⌜ AxisHats wall (endsOf f) (endsOf c) axis (c .cells) (now (nodes .entry)) (now (weights .entry)) (now (counts .entry)) (now (nodes .exit)) (now (weights .exit)) (now (counts .exit)) ⌝ }
 {
     let nn = line::nodes_of(f, c);
     let n = c.cells;
     for m in 0..n {
         let b = 64 * axis + m;
-        counts[b] = push_around(f, c, nn, wall, m, nodes, weights, 128 * b) - 128 * b;
+        counts[b] = push_around(f, c, &nn, 0, wall, m, nodes, weights, 128 * b) - 128 * b;
     }
 }
 
@@ -243,9 +258,9 @@ fn hats(
     weights: &mut [f64],
     counts: &mut [usize],
 )
-    requires { ⌜ PairedLines (medium l (now st)) fine coarse ⌝ }
-    requires { ⌜ (length (now nodes) ≡ 24576) × (length (now weights) ≡ 24576) × (length (now counts) ≡ 192) ⌝ }
-    ensures { λ _. ⌜ Hats (twoOf (medium l (now (st .entry))) fine coarse) (now (nodes .exit)) (now (weights .exit)) (now (counts .exit)) ⌝ }
+    requires { ⌜ PairedLines (fullLattice l (now st)) fine coarse ⌝ }
+    requires { ⌜ (length (now nodes) ≡ hatPlaces) × (length (now weights) ≡ hatPlaces) × (length (now counts) ≡ hatCounts) ⌝ }
+    ensures { λ _. ⌜ Hats (twoOf (fullLattice l (now (st .entry))) fine coarse) (now (nodes .exit)) (now (weights .exit)) (now (counts .exit)) ⌝ }
 {
     let x = l.x;
     let y = l.y;
@@ -259,6 +274,15 @@ fn hats(
 }
 
 // ---- the mean
+
+// The position p, moved to the nodes of two hats on the axes across its component.
+fn through(p: Position, h: Hat, k: Hat) -> Position
+    ensures { λ q. ⌜ q ≡ movedTo (movedTo p (nextAxis (p .component)) (h .node)) (lastAxis (p .component)) (k .node) ⌝ }
+{
+    let b = grid::next_axis(p.component);
+    let c = grid::last_axis(p.component);
+    grid::moved_to(grid::moved_to(p, b, h.node), c, k.node)
+}
 
 // One line of fine edges more, from place `first` up to `last` along the component of p, through the nodes of two hats.
 fn weigh_line(
@@ -278,10 +302,7 @@ fn weigh_line(
     requires { ⌜ (h .node < nOf gf (nextAxis (p .component))) × (k .node < nOf gf (lastAxis (p .component))) ⌝ }
     ensures { λ r. ⌜ r ≡ weighLine gf (readFrom (now (eps .entry)) from) p first (last - first) h s k ⌝ }
 {
-    let b = grid::next_axis(p.component);
-    let c = grid::last_axis(p.component);
-    let q = grid::moved_to(grid::moved_to(p, b, h.node), c, k.node);
-    let inverse = eps::sum_of_inverses(gf, eps, from, q, first, last);
+    let inverse = eps::sum_of_inverses(gf, eps, from, through(p, h, k), first, last);
     let w = h.weight * k.weight;
     let count = last - first;
     let mean = numbers::real_over(w * count as f64, inverse);
@@ -431,18 +452,281 @@ pub fn averaged_eps(
     from: usize,
     to: usize,
 ) -> bool
-    requires { ⌜ PairedLines (medium l (now st)) fine coarse ⌝ }
-    requires { ⌜ ChainRoom (unknownsOf (fineGrid (twoOf (medium l (now st)) fine coarse))) (unknownsOf (coarseGrid (twoOf (medium l (now st)) fine coarse))) from to (now eps) ⌝ }
-    ensures { λ _. ⌜ now (eps .exit) ≡ laidNumbers (now (eps .entry)) to (tabulate (averagedEps (twoOf (medium l (now (st .entry))) fine coarse) (readFrom (now (eps .entry)) from)) (unknownsOf (coarseGrid (twoOf (medium l (now (st .entry))) fine coarse))) 0) ⌝ }
-    ensures { λ r. ⌜ r ≡ allFinite (tabulate (averagedEps (twoOf (medium l (now (st .entry))) fine coarse) (readFrom (now (eps .entry)) from)) (unknownsOf (coarseGrid (twoOf (medium l (now (st .entry))) fine coarse))) 0) ⌝ }
+    requires { ⌜ PairedLines (fullLattice l (now st)) fine coarse ⌝ }
+    requires { ⌜ ChainRoom (unknownsOf (fineGrid (twoOf (fullLattice l (now st)) fine coarse))) (unknownsOf (coarseGrid (twoOf (fullLattice l (now st)) fine coarse))) from to (now eps) ⌝ }
+    ensures { λ _. ⌜ now (eps .exit) ≡ laidNumbers (now (eps .entry)) to (tabulate (averagedEps (twoOf (fullLattice l (now (st .entry))) fine coarse) (readFrom (now (eps .entry)) from)) (unknownsOf (coarseGrid (twoOf (fullLattice l (now (st .entry))) fine coarse))) 0) ⌝ }
+    ensures { λ r. ⌜ r ≡ allFinite (tabulate (averagedEps (twoOf (fullLattice l (now (st .entry))) fine coarse) (readFrom (now (eps .entry)) from)) (unknownsOf (coarseGrid (twoOf (fullLattice l (now (st .entry))) fine coarse))) 0) ⌝ }
 {
     let gf = tables::grid_of(l.grid, fine);
     let gc = tables::grid_of(l.grid, coarse);
     let nn = tables::nodes(l, st, fine, coarse);
-    let mut nodes = [0usize; 24576];
-    let mut weights = [0.0; 24576];
-    let mut counts = [0usize; 192];
+    let mut nodes = [0usize; HAT_PLACES];
+    let mut weights = [0.0; HAT_PLACES];
+    let mut counts = [0usize; HAT_COUNTS];
     hats(l, st, fine, coarse, &mut nodes, &mut weights, &mut counts);
     all_averaged(gf, gc, &nn, &nodes, &weights, &counts, eps, from, to);
     lists::finite_numbers(eps, to, grid::unknowns(gc))
+}
+
+// ---- one edge alone
+
+fn line_on(s: Three, axis: usize) -> Line
+    ensures { λ r. ⌜ r ≡ axis3 axis (s .x) (s .y) (s .z) ⌝ }
+{
+    if axis == 0 {
+        return s.x;
+    }
+    if axis == 1 {
+        return s.y;
+    }
+    s.z
+}
+
+// The hats around node m of an axis of two levels. nn has the nodes' numbers, 65 for each axis.
+fn around_on(
+    l: Lattice,
+    st: &[f64],
+    fine: Three,
+    coarse: Three,
+    nn: &[usize],
+    axis: usize,
+    m: usize,
+    nodes: &mut [usize],
+    weights: &mut [f64],
+    from: usize,
+) -> usize
+    requires { ⌜ PairedLines (fullLattice l (now st)) fine coarse ⌝ }
+    requires { ⌜ now nn ≡ tabulate (nodeNo (twoOf (fullLattice l (now st)) fine coarse)) nodeCount 0 ⌝ }
+    requires { ⌜ (axis < 3) × (m < coarseCells (twoOf (fullLattice l (now st)) fine coarse) axis) × (from < 2 ^ 20) ⌝ }
+    ensures { λ r. ⌜ HatsLaid (now (nodes .entry)) (now (weights .entry)) from (hatsAround (twoOf (fullLattice l (now (st .entry))) fine coarse) axis m) (now (nodes .exit)) (now (weights .exit)) r ⌝ }
+{
+    let wall = lattice::lattice::is_wall(lattice::lattice::edges_on(l, st, axis));
+    let f = line_on(fine, axis);
+    let c = line_on(coarse, axis);
+    push_around(f, c, nn, 65 * axis, wall, m, nodes, weights, from)
+}
+
+// Those around the node of a coarse edge at p on the axes across it: on the next from place 0 on, on the last from place 128 on.
+fn hats_across(
+    l: Lattice,
+    st: &[f64],
+    fine: Three,
+    coarse: Three,
+    nn: &[usize],
+    p: Position,
+    nodes: &mut [usize],
+    weights: &mut [f64],
+) -> Counts
+    requires { ⌜ PairedLines (fullLattice l (now st)) fine coarse ⌝ }
+    requires { ⌜ now nn ≡ tabulate (nodeNo (twoOf (fullLattice l (now st)) fine coarse)) nodeCount 0 ⌝ }
+    requires { ⌜ Inside (coarseGrid (twoOf (fullLattice l (now st)) fine coarse)) p ⌝ }
+    requires { ⌜ (length (now nodes) ≡ 256) × (length (now weights) ≡ 256) ⌝ }
+    ensures { λ k. ⌜ HatsAcross (twoOf (fullLattice l (now (st .entry))) fine coarse) p (now (nodes .exit)) (now (weights .exit)) k ⌝ }
+{
+    let b = grid::next_axis(p.component);
+    let c = grid::last_axis(p.component);
+    let i = grid::place_on(p, b);
+    let j = grid::place_on(p, c);
+    let next = around_on(l, st, fine, coarse, nn, b, i, nodes, weights, 0);
+    let last = around_on(l, st, fine, coarse, nn, c, j, nodes, weights, 128);
+    Counts {
+        next: next,
+        last: last - 128,
+    }
+}
+
+// The permittivity of coarse edge r of two, read from place `from` on.
+fn averaged_edge(
+    l: Lattice,
+    st: &[f64],
+    fine: Three,
+    coarse: Three,
+    nn: &[usize],
+    eps: &[f64],
+    from: usize,
+    r: usize,
+) -> C64
+    requires { ⌜ PairedLines (fullLattice l (now st)) fine coarse ⌝ }
+    requires { ⌜ now nn ≡ tabulate (nodeNo (twoOf (fullLattice l (now st)) fine coarse)) nodeCount 0 ⌝ }
+    requires { ⌜ r < unknownsOf (coarseGrid (twoOf (fullLattice l (now st)) fine coarse)) ⌝ }
+    requires { ⌜ (from ≤ 2 ^ 32) × (2 * (from + unknownsOf (fineGrid (twoOf (fullLattice l (now st)) fine coarse))) ≤ length (now eps)) ⌝ }
+    ensures { λ v. ⌜ v ≡ averagedEps (twoOf (fullLattice l (now (st .entry))) fine coarse) (readFrom (now (eps .entry)) from) r ⌝ }
+{
+    let gf = tables::grid_of(l.grid, fine);
+    let p = grid::at(tables::grid_of(l.grid, coarse), r);
+    let mut nodes = [0usize; 256];
+    let mut weights = [0.0; 256];
+    let k = hats_across(l, st, fine, coarse, nn, p, &mut nodes, &mut weights);
+    let m = 65 * p.component + grid::place_on(p, p.component);
+    let s = weigh_all(
+        gf,
+        eps,
+        from,
+        p,
+        nn[m],
+        nn[m + 1],
+        &nodes,
+        &weights,
+        0,
+        k.next,
+        128,
+        k.last,
+    );
+    numbers::over_real(s.total, s.weight)
+}
+
+// The permittivity of coarse edge r of two alone, put into its place, those of the level beginning at place `to`; whether it is finite.
+pub fn averaged_row(
+    l: Lattice,
+    st: &[f64],
+    fine: Three,
+    coarse: Three,
+    nn: &[usize],
+    eps: &mut [f64],
+    from: usize,
+    to: usize,
+    r: usize,
+) -> bool
+    requires { ⌜ PairedLines (fullLattice l (now st)) fine coarse ⌝ }
+    requires { ⌜ now nn ≡ tabulate (nodeNo (twoOf (fullLattice l (now st)) fine coarse)) nodeCount 0 ⌝ }
+    requires { ⌜ r < unknownsOf (coarseGrid (twoOf (fullLattice l (now st)) fine coarse)) ⌝ }
+    requires { ⌜ ChainRoom (unknownsOf (fineGrid (twoOf (fullLattice l (now st)) fine coarse))) (unknownsOf (coarseGrid (twoOf (fullLattice l (now st)) fine coarse))) from to (now eps) ⌝ }
+    ensures { λ _. ⌜ now (eps .exit) ≡ setNumber (now (eps .entry)) (to + r) (averagedEps (twoOf (fullLattice l (now (st .entry))) fine coarse) (readFrom (now (eps .entry)) from) r) ⌝ }
+    ensures { λ b. ⌜ b ≡ finite (averagedEps (twoOf (fullLattice l (now (st .entry))) fine coarse) (readFrom (now (eps .entry)) from) r) ⌝ }
+{
+    let v = averaged_edge(l, st, fine, coarse, nn, eps, from, r);
+    numbers::put(eps, to + r, v);
+    numbers::is_finite(v)
+}
+
+// ---- what one edge reads: is some of it flagged?
+
+// Of one line, from place `first` up to `last` along the component of p, through the nodes of two hats.
+fn line_flagged(
+    gf: Grid3d,
+    flags: &[bool],
+    p: Position,
+    first: usize,
+    last: usize,
+    h: Hat,
+    k: Hat,
+) -> bool
+    requires { ⌜ Limits gf ⌝ }
+    requires { ⌜ unknownsOf gf ≤ length (now flags) ⌝ }
+    requires { ⌜ (p .component < 3) × (first ≤ last) × (last ≤ nOf gf (p .component)) ⌝ }
+    requires { ⌜ (h .node < nOf gf (nextAxis (p .component))) × (k .node < nOf gf (lastAxis (p .component))) ⌝ }
+    ensures { λ b. ⌜ b ≡ anyFlag (now (flags .entry)) (lineEdges gf p first (last - first) h k) ⌝ }
+{
+    let q = through(p, h, k);
+    for m in first..last {
+        let e = grid::index(gf, grid::moved_to(q, q.component, m));
+        if flags[e] {
+            return true;
+        }
+    }
+    false
+}
+
+// Of the lines through a hat and each of the n hats that stand from place j on.
+fn lines_flagged(
+    gf: Grid3d,
+    flags: &[bool],
+    p: Position,
+    first: usize,
+    last: usize,
+    h: Hat,
+    nodes: &[usize],
+    weights: &[f64],
+    j: usize,
+    n: usize,
+) -> bool
+    requires { ⌜ Limits gf ⌝ }
+    requires { ⌜ unknownsOf gf ≤ length (now flags) ⌝ }
+    requires { ⌜ (p .component < 3) × (first ≤ last) × (last ≤ nOf gf (p .component)) ⌝ }
+    requires { ⌜ h .node < nOf gf (nextAxis (p .component)) ⌝ }
+    requires { ⌜ HatsFit (nOf gf (lastAxis (p .component))) j n (now nodes) (now weights) ⌝ }
+    ensures { λ b. ⌜ b ≡ anyFlag (now (flags .entry)) (hatEdges gf p first (last - first) (hatsIn (now (nodes .entry)) (now (weights .entry)) j n) h) ⌝ }
+{
+    let end = j + n;
+    for q in j..end {
+        let k = Hat {
+            node: nodes[q],
+            weight: weights[q],
+        };
+        if line_flagged(gf, flags, p, first, last, h, k) {
+            return true;
+        }
+    }
+    false
+}
+
+// Of the lines through each pair of the hats from places i and j on.
+fn all_flagged(
+    gf: Grid3d,
+    flags: &[bool],
+    p: Position,
+    first: usize,
+    last: usize,
+    nodes: &[usize],
+    weights: &[f64],
+    i: usize,
+    m: usize,
+    j: usize,
+    n: usize,
+) -> bool
+    requires { ⌜ Limits gf ⌝ }
+    requires { ⌜ unknownsOf gf ≤ length (now flags) ⌝ }
+    requires { ⌜ (p .component < 3) × (first ≤ last) × (last ≤ nOf gf (p .component)) ⌝ }
+    requires { ⌜ HatsFit (nOf gf (nextAxis (p .component))) i m (now nodes) (now weights) ⌝ }
+    requires { ⌜ HatsFit (nOf gf (lastAxis (p .component))) j n (now nodes) (now weights) ⌝ }
+    ensures { λ b. ⌜ b ≡ anyFlag (now (flags .entry)) (each (hatEdges gf p first (last - first) (hatsIn (now (nodes .entry)) (now (weights .entry)) j n)) (hatsIn (now (nodes .entry)) (now (weights .entry)) i m)) ⌝ }
+{
+    let end = i + m;
+    for q in i..end {
+        let h = Hat {
+            node: nodes[q],
+            weight: weights[q],
+        };
+        if lines_flagged(gf, flags, p, first, last, h, nodes, weights, j, n) {
+            return true;
+        }
+    }
+    false
+}
+
+// Of coarse edge r of two: whether one of the fine edges whose permittivities it reads is flagged. No other is looked at.
+pub fn averaged_flagged(
+    l: Lattice,
+    st: &[f64],
+    fine: Three,
+    coarse: Three,
+    nn: &[usize],
+    flags: &[bool],
+    r: usize,
+) -> bool
+    requires { ⌜ PairedLines (fullLattice l (now st)) fine coarse ⌝ }
+    requires { ⌜ now nn ≡ tabulate (nodeNo (twoOf (fullLattice l (now st)) fine coarse)) nodeCount 0 ⌝ }
+    requires { ⌜ r < unknownsOf (coarseGrid (twoOf (fullLattice l (now st)) fine coarse)) ⌝ }
+    requires { ⌜ unknownsOf (fineGrid (twoOf (fullLattice l (now st)) fine coarse)) ≤ length (now flags) ⌝ }
+    ensures { λ b. ⌜ b ≡ anyFlag (now (flags .entry)) (averagedReads (twoOf (fullLattice l (now (st .entry))) fine coarse) r) ⌝ }
+{
+    let gf = tables::grid_of(l.grid, fine);
+    let p = grid::at(tables::grid_of(l.grid, coarse), r);
+    let mut nodes = [0usize; 256];
+    let mut weights = [0.0; 256];
+    let k = hats_across(l, st, fine, coarse, nn, p, &mut nodes, &mut weights);
+    let m = 65 * p.component + grid::place_on(p, p.component);
+    all_flagged(
+        gf,
+        flags,
+        p,
+        nn[m],
+        nn[m + 1],
+        &nodes,
+        &weights,
+        0,
+        k.next,
+        128,
+        k.last,
+    )
 }

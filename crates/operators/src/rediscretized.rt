@@ -5,7 +5,7 @@ ghost use Prim.Native.Nat.{ℕ, _+_, _*_, _<_, _≤_};
 ghost use lib.ListN.{length, getD};
 ghost use Rattle.numbers.specs.Complex.{noNumber};
 ghost use Rattle.lattice.specs.Grid.{Limits};
-ghost use Rattle.lattice.specs.Lattice.{medium, edgesOf};
+ghost use Rattle.lattice.specs.Lattice.{fullLattice, edgesOf, stretchDoubles};
 ghost use Rattle.lattice.specs.Line.{endsOf, Held};
 ghost use Rattle.lattice.specs.Stretched.{acrossMap, alongMap};
 ghost use Rattle.weights.specs.Tables.{linesIn, HeldThree};
@@ -14,6 +14,7 @@ use lattice::grid;
 use lattice::grid::Grid3d;
 use lattice::lattice::Edges;
 use lattice::lattice::Lattice;
+use lattice::lattice::STRETCH_DOUBLES;
 use lattice::levels::Three;
 use lattice::line;
 use lattice::line::Line;
@@ -58,7 +59,7 @@ fn first_width(e: Edges, x: [C64; 129], f: Line) -> C64
     let first = line::place(f, 0, true);
     match e {
         Edges::Pml => numbers::real_times(2.0, numbers::sub(x[first], x[0])),
-        Edges::Bloch(_, _) => {
+        Edges::Bloch(_) => {
             let width = first + f.ends[n] - line::place(f, n - 1, true);
             C64 {
                 re: width as f64 / 2.0,
@@ -83,7 +84,7 @@ fn node_width(e: Edges, x: [C64; 129], f: Line, m: usize) -> C64
     numbers::sub(x[here], x[before])
 }
 
-// The stretches of an axis, laid over a list of stretches: at its nodes, and halfway behind them.
+// The stretches of an axis, laid over a list of stretches: at its nodes, and half a step after them.
 fn lay_axis(
     g: Grid3d,
     e: Edges,
@@ -96,7 +97,7 @@ fn lay_axis(
     requires { ⌜ (Limits g) × (axis < 3) ⌝ }
     requires { ⌜ Held f ⌝ }
     requires { ⌜ Tame f ⌝ }
-    requires { ⌜ length (now out) ≡ 768 ⌝ }
+    requires { ⌜ length (now out) ≡ stretchDoubles ⌝ }
     ensures { λ _. ⌜ AxisLaid (nodeOn g e along (endsOf f) axis) (halfOn g across (endsOf f) axis) axis (f .cells) (now (out .entry)) (now (out .exit)) ⌝ }
 {
     let n = f.cells;
@@ -146,14 +147,14 @@ pub fn rediscretized_lattice(l: Lattice, s: Three) -> Lattice
 }
 
 // Its list of stretches.
-pub fn rediscretized_stretches(l: Lattice, st: &[f64], s: Three) -> [f64; 768]
+pub fn rediscretized_stretches(l: Lattice, st: &[f64], s: Three) -> [f64; STRETCH_DOUBLES]
     requires { ⌜ Limits (l .grid) ⌝ }
     requires { ⌜ HeldThree s ⌝ }
     requires { ⌜ (Tame (s .x)) × (Tame (s .y)) × (Tame (s .z)) ⌝ }
-    ensures { λ r. ⌜ length r ≡ 768 ⌝ }
-    ensures { λ r. ⌜ medium (latticeOn l s) r ≡ rediscretizedLattice (medium l (now (st .entry))) (linesIn s) ⌝ }
+    ensures { λ r. ⌜ length r ≡ stretchDoubles ⌝ }
+    ensures { λ r. ⌜ fullLattice (latticeOn l s) r ≡ rediscretizedLattice (fullLattice l (now (st .entry))) (linesIn s) ⌝ }
 {
-    let mut out = [0.0; 768];
+    let mut out = [0.0; STRETCH_DOUBLES];
     let g = l.grid;
     let x = l.x;
     let y = l.y;

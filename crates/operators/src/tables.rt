@@ -5,11 +5,14 @@ ghost use Prim.Native.Nat.{_+_, _*_, _<_, _≤_, _^_};
 ghost use lib.ListN.{length};
 ghost use Rattle.lattice.specs.Grid.{Limits, Inside};
 ghost use Rattle.operators.specs.Columns.{Listed};
-ghost use Rattle.operators.specs.Numbered.{columnNo, noOf, wordOf, picksOf, rowColumns, Ready, Done};
+ghost use Rattle.operators.specs.Numbered.{columnNo, noOf, wordOf, picksOf, rowColumns, relationsLaid, wordsBelow, Ready, wordCount};
 use crate::columns;
 use crate::compose;
 use lattice::grid::Grid3d;
 use lattice::grid::Position;
+
+// Eighteen relations of 64 words.
+pub const WORDS: usize = 1152;
 
 // The role of the columns of relation w.
 fn column_no(w: usize) -> usize
@@ -22,10 +25,10 @@ fn column_no(w: usize) -> usize
     5 - w
 }
 
-// The relations one level down.
+// The relations one level down, laid over the list.
 pub fn coarsen(t: &[u64], f: &[u64], n: &[usize], m: &[usize], out: &mut [u64])
     requires { ⌜ Ready (now t) (now f) (now n) (now m) (now out) ⌝ }
-    ensures { λ _. ⌜ Done (now (t .entry)) (now (f .entry)) (now (n .entry)) (now (m .entry)) 18 (now (out .exit)) ⌝ }
+    ensures { λ _. ⌜ now (out .exit) ≡ relationsLaid (wordsBelow (now (t .entry)) (now (f .entry)) (now (n .entry)) (now (m .entry))) 18 (now (out .entry)) ⌝ }
 {
     for q in 0..18 {
         let d = q / 6;
@@ -70,7 +73,7 @@ fn no(p: bool, q: bool, near: bool) -> usize
 
 // The word of place i on axis d, in a row of component a for the columns of component b.
 fn word(t: &[u64], d: usize, a: usize, b: usize, near: bool, i: usize) -> u64
-    requires { ⌜ (length (now t) ≡ 1152) × (d < 3) × (i < 64) ⌝ }
+    requires { ⌜ (length (now t) ≡ wordCount) × (d < 3) × (i < 64) ⌝ }
     ensures { λ r. ⌜ r ≡ wordOf (now (t .entry)) d a b near i ⌝ }
 {
     let w = no(d == a, d == b, near);
@@ -79,7 +82,7 @@ fn word(t: &[u64], d: usize, a: usize, b: usize, near: bool, i: usize) -> u64
 
 // The words of a row of component a at x, y, z, for the columns of component b.
 pub fn picks(t: &[u64], a: usize, b: usize, x: usize, y: usize, z: usize) -> columns::Picks
-    requires { ⌜ (length (now t) ≡ 1152) × (x < 64) × (y < 64) × (z < 64) ⌝ }
+    requires { ⌜ (length (now t) ≡ wordCount) × (x < 64) × (y < 64) × (z < 64) ⌝ }
     ensures { λ r. ⌜ r ≡ picksOf (now (t .entry)) a b x y z ⌝ }
 {
     columns::Picks {
@@ -102,7 +105,7 @@ pub fn row_columns(
     out: &mut [usize],
     at: usize,
 ) -> usize
-    requires { ⌜ length (now t) ≡ 1152 ⌝ }
+    requires { ⌜ length (now t) ≡ wordCount ⌝ }
     requires { ⌜ Limits g ⌝ }
     requires { ⌜ Inside g p ⌝ }
     requires { ⌜ at ≤ 2 ^ 40 ⌝ }
@@ -119,7 +122,7 @@ pub fn row_columns(
 
 // How many columns the row at p has: its number does not matter.
 pub fn row_count(t: &[u64], g: Grid3d, fixed: bool, p: Position) -> usize
-    requires { ⌜ length (now t) ≡ 1152 ⌝ }
+    requires { ⌜ length (now t) ≡ wordCount ⌝ }
     requires { ⌜ Limits g ⌝ }
     requires { ⌜ Inside g p ⌝ }
     ensures { λ n. ⌜ n ≡ length (rowColumns (now (t .entry)) g fixed 0 p) ⌝ }

@@ -5,27 +5,26 @@ ghost use mathlib.Core.Bool.{_&&_};
 ghost use Prim.Native.Nat.{_+_, _-_, _*_, _<_, _≤_, _^_};
 ghost use lib.ListN.{length, getD};
 ghost use Rattle.numbers.specs.Complex.{zeroNumber};
+ghost use Rattle.numbers.specs.Places.{setNumber};
 ghost use Rattle.lattice.specs.Grid.{unknownsOf, Limits, Inside};
-ghost use Rattle.lattice.specs.Lattice.{medium, tabulate};
-ghost use Rattle.lattice.specs.Terms.{termsIn};
-ghost use Rattle.weights.specs.Lists.{laidNumbers, allFinite};
-ghost use Rattle.weights.specs.Transfer.{Stored};
-ghost use Rattle.weights.specs.Tables.{readFrom};
+ghost use Rattle.lattice.specs.Lattice.{fullLattice};
+ghost use Rattle.numbers.specs.Lists.{tabulate, laidNumbers, allFinite, readFrom};
+ghost use Rattle.numbers.specs.Terms.{termsIn, Stored};
 ghost use Rattle.operators.specs.Galerkin.{rowsIn};
-ghost use Rattle.operators.specs.Volumes.{sideOf, volumeAt, volumeOf, weighted, shareOf, inverseOf, inverseShare, sharesFinite, SharesRoom};
-use crate::galerkin::Part;
+ghost use Rattle.operators.specs.Volumes.{sideOf, volumeAt, volumeOf, weighted, shareOf, inverseOf, inverseShare, shareFinite, sharesFinite, SharesRoom};
 use lattice::grid;
 use lattice::grid::Position;
 use lattice::lattice::Lattice;
 use numbers::C64;
-use weights::lists;
+use numbers::lists;
+use numbers::terms::Part;
 
 // A side of an edge's cell.
 fn side(l: Lattice, st: &[f64], p: Position, axis: usize) -> C64
     requires { ⌜ Limits (l .grid) ⌝ }
     requires { ⌜ Inside (l .grid) p ⌝ }
     requires { ⌜ axis < 3 ⌝ }
-    ensures { λ r. ⌜ r ≡ sideOf (medium l (now (st .entry))) p axis ⌝ }
+    ensures { λ r. ⌜ r ≡ sideOf (fullLattice l (now (st .entry))) p axis ⌝ }
 {
     let m = grid::place_on(p, axis);
     let step = grid::step(l.grid, axis);
@@ -39,7 +38,7 @@ fn side(l: Lattice, st: &[f64], p: Position, axis: usize) -> C64
 pub fn volume(l: Lattice, st: &[f64], r: usize) -> C64
     requires { ⌜ Limits (l .grid) ⌝ }
     requires { ⌜ r < unknownsOf (l .grid) ⌝ }
-    ensures { λ v. ⌜ v ≡ volumeOf (medium l (now (st .entry))) r ⌝ }
+    ensures { λ v. ⌜ v ≡ volumeOf (fullLattice l (now (st .entry))) r ⌝ }
 {
     let p = grid::at(l.grid, r);
     let x = numbers::mul(numbers::one(), side(l, st, p, 0));
@@ -51,8 +50,8 @@ pub fn volume(l: Lattice, st: &[f64], r: usize) -> C64
 pub fn volumes(l: Lattice, st: &[f64], scaling: &mut [f64], k: usize) -> bool
     requires { ⌜ Limits (l .grid) ⌝ }
     requires { ⌜ (k ≤ 2 ^ 32) × (2 * (k + unknownsOf (l .grid)) ≤ length (now scaling)) ⌝ }
-    ensures { λ _. ⌜ now (scaling .exit) ≡ laidNumbers (now (scaling .entry)) k (tabulate (volumeOf (medium l (now (st .entry)))) (unknownsOf (l .grid)) 0) ⌝ }
-    ensures { λ b. ⌜ b ≡ allFinite (tabulate (volumeOf (medium l (now (st .entry)))) (unknownsOf (l .grid)) 0) ⌝ }
+    ensures { λ _. ⌜ now (scaling .exit) ≡ laidNumbers (now (scaling .entry)) k (tabulate (volumeOf (fullLattice l (now (st .entry)))) (unknownsOf (l .grid)) 0) ⌝ }
+    ensures { λ b. ⌜ b ≡ allFinite (tabulate (volumeOf (fullLattice l (now (st .entry)))) (unknownsOf (l .grid)) 0) ⌝ }
 {
     let n = grid::unknowns(l.grid);
     for r in 0..n {
@@ -83,7 +82,7 @@ fn share(
 }
 
 // 1 over a share; a zero share gives 1.
-fn inverse(share: C64) -> C64
+pub fn inverse(share: C64) -> C64
     ensures { λ v. ⌜ v ≡ inverseOf share ⌝ }
 {
     if numbers::is_zero(share) {
@@ -113,6 +112,31 @@ pub fn share_at(
     share(tcolumns, tvalues, first, last, scaling, k)
 }
 
+// The inverse share of coarse edge c alone, put into its place behind the volumes, where the inverse shares of m coarse edges begin at place `to`; whether
+// the share and its inverse are finite.
+pub fn inverse_share(
+    t: Part,
+    tstarts: &[usize],
+    tcolumns: &[usize],
+    tvalues: &[f64],
+    m: usize,
+    n: usize,
+    scaling: &mut [f64],
+    k: usize,
+    to: usize,
+    c: usize,
+) -> bool
+    requires { ⌜ Stored (now tstarts) (t .s) (now tcolumns) (now tvalues) (t .k) m n ⌝ }
+    requires { ⌜ (c < m) × (k ≤ 2 ^ 32) × (k + n ≤ to) × (2 * (to + m) ≤ length (now scaling)) ⌝ }
+    ensures { λ _. ⌜ now (scaling .exit) ≡ setNumber (now (scaling .entry)) (to + c) (inverseShare (rowsIn t (now (tstarts .entry)) (now (tcolumns .entry)) (now (tvalues .entry))) (readFrom (now (scaling .entry)) k) c) ⌝ }
+    ensures { λ b. ⌜ b ≡ shareFinite (rowsIn t (now (tstarts .entry)) (now (tcolumns .entry)) (now (tvalues .entry))) (readFrom (now (scaling .entry)) k) c ⌝ }
+{
+    let v = share_at(t, tstarts, tcolumns, tvalues, m, n, c, scaling, k);
+    let w = inverse(v);
+    numbers::put(scaling, to + c, w);
+    numbers::is_finite(v) && numbers::is_finite(w)
+}
+
 // The inverse shares of m coarse edges, laid over the same list from place `to` on, behind the volumes; whether every share and inverse is finite.
 pub fn inverse_shares(
     t: Part,
@@ -132,10 +156,8 @@ pub fn inverse_shares(
 {
     let mut finite = true;
     for c in 0..m {
-        let v = share_at(t, tstarts, tcolumns, tvalues, m, n, c, scaling, k);
-        let w = inverse(v);
-        numbers::put(scaling, to + c, w);
-        finite = finite && (numbers::is_finite(v) && numbers::is_finite(w));
+        let one = inverse_share(t, tstarts, tcolumns, tvalues, m, n, scaling, k, to, c);
+        finite = finite && one;
     }
     finite
 }

@@ -1,9 +1,8 @@
 // Sets of places of an axis as the bits of a word.
 
 ghost use mathlib.Core.Path.{_≡_};
-ghost use Prim.Native.Nat.{ℕ, _<_};
-ghost use lib.Dec.{eqb};
-ghost use Rattle.operators.specs.Bits.{bitAt, mixOf};
+ghost use Prim.Native.Nat.{_<_};
+ghost use Rattle.operators.specs.Bits.{bitAt, mixOf, single};
 
 // Is k in the set?
 pub fn bit(w: u64, k: usize) -> bool
@@ -16,7 +15,7 @@ pub fn bit(w: u64, k: usize) -> bool
 // The set of k alone.
 pub fn unit(k: usize) -> u64
     requires { ⌜ k < 64 ⌝ }
-    ensures { λ r. ⌜ ((j : ℕ) → bitAt r j ≡ eqb j k) ⌝ }
+    ensures { λ r. ⌜ r ≡ single k ⌝ }
 {
     1 << k
 }

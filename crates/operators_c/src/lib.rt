@@ -2,22 +2,19 @@
 // end of a result list is left out. The input is that of the lattice layer's functions.
 
 ghost use mathlib.Core.Path.{_≡_};
-ghost use mathlib.Core.Bool.{true};
 ghost use Prim.Native.Nat.{_*_, _≤_, _^_};
 ghost use lib.ListN.{length, take};
 ghost use Rattle.numbers.specs.Places.{numberAt};
 ghost use Rattle.lattice.specs.Grid.{unknownsOf, Limits};
-ghost use Rattle.lattice.specs.Lattice.{medium, latticeOf};
-ghost use Rattle.lattice.specs.Check.{isSound, checkOf};
-ghost use Rattle.lattice_c.specs.Exports.{inputOf};
-ghost use Rattle.weights.specs.Lists.{laid};
+ghost use Rattle.lattice.specs.Lattice.{fullLattice};
+ghost use Rattle.lattice_c.specs.Exports.{handed, AllLaid, RowsLeft};
+ghost use Rattle.numbers.specs.Lists.{laid};
 ghost use Rattle.operators.specs.Stencil.{stencilRow};
-ghost use Rattle.operators_c.specs.Exports.{OperatorLeft};
 use lattice::check;
 use lattice::grid;
 use lattice::lattice::Lattice;
+use numbers::lists;
 use operators::stencil;
-use weights::lists;
 
 // The first n of a list, laid over another.
 fn copy(from: &[usize], n: usize, to: &mut [usize])
@@ -40,7 +37,7 @@ fn lay(
 ) -> usize
     requires { ⌜ Limits (l .grid) ⌝ }
     requires { ⌜ 2 * unknownsOf (l .grid) ≤ length (now eps) ⌝ }
-    ensures { λ r. ⌜ OperatorLeft true (stencilRow (medium l (now (st .entry))) (numberAt (now (eps .entry)))) (unknownsOf (l .grid)) (now (starts .entry)) (now (columns .entry)) (now (values .entry)) (now (starts .exit)) (now (columns .exit)) (now (values .exit)) r ⌝ }
+    ensures { λ r. ⌜ AllLaid (stencilRow (fullLattice l (now (st .entry))) (numberAt (now (eps .entry)))) (unknownsOf (l .grid)) (now (starts .entry)) (now (columns .entry)) (now (values .entry)) (now (starts .exit)) (now (columns .exit)) (now (values .exit)) r ⌝ }
 {
     let n = grid::unknowns(l.grid);
     let mut found = [0usize; 12289];
@@ -65,7 +62,7 @@ pub extern "C" fn operators_rows(
     columns: &mut [usize],
     values: &mut [f64],
 ) -> usize
-    ensures { λ r. ⌜ OperatorLeft (isSound (checkOf (inputOf (now (cells .entry)) (now (scalars .entry))) (now (xn .entry)) (now (xh .entry)) (now (yn .entry)) (now (yh .entry)) (now (zn .entry)) (now (zh .entry)) (now (eps .entry)))) (stencilRow (latticeOf (inputOf (now (cells .entry)) (now (scalars .entry))) (now (xn .entry)) (now (xh .entry)) (now (yn .entry)) (now (yh .entry)) (now (zn .entry)) (now (zh .entry))) (numberAt (now (eps .entry)))) (unknownsOf (inputOf (now (cells .entry)) (now (scalars .entry)) .grid)) (now (starts .entry)) (now (columns .entry)) (now (values .entry)) (now (starts .exit)) (now (columns .exit)) (now (values .exit)) r ⌝ }
+    ensures { λ r. ⌜ RowsLeft stencilRow (handed (now (cells .entry)) (now (scalars .entry)) (now (xn .entry)) (now (xh .entry)) (now (yn .entry)) (now (yh .entry)) (now (zn .entry)) (now (zh .entry))) (now (eps .entry)) (now (starts .entry)) (now (columns .entry)) (now (values .entry)) (now (starts .exit)) (now (columns .exit)) (now (values .exit)) r ⌝ }
 {
     let v = lattice_c::input(cells, scalars);
     if !check::is_sound(check::check(v, xn, xh, yn, yh, zn, zh, eps)) {

@@ -1,60 +1,40 @@
 -- Laws of the coarse permittivities: the edges of a coarse edge's cell, by the nodes in a list; the loops over a cell and over a level; that the list of
 -- nodes gives what the two levels do.
 -- Assumes nothing.
-use Prim.Native.Nat.{ℕ, zero, suc, _+_, _-_, _*_, _<_, _≤_, _^_, suc-le-suc}
-use native.Mathlib.Numerals.{add-one}
+use Prim.Native.Nat.{ℕ, _+_, _-_, _*_, _<_, _≤_, _^_}
 use native.Mathlib.Omega.{arith}
 use mathlib.Core.Path.{_≡_, refl, sym, ap, _∙_}
-use mathlib.Core.Bool.{Bool, true, false, cond}
-use mathlib.Core.List.{List, [], _∷_}
-use borrow.Author.Tests.{ltb-true, lt-ltb}
-use lib.Dec.{ltb, T}
+use mathlib.Core.Bool.{Bool}
+use mathlib.Core.List.{List}
+use lib.Dec.{T}
 use lib.IntN.{pos}
 use lib.ListN.{length, getD}
 use lib.Ieee.{Float, binary64, ofInt, inFloat}
 use Rattle.numbers.specs.declared.C64.{C64}
-use Rattle.numbers.specs.Complex.{oneF, zeroNumber, sum, realOver}
+use Rattle.numbers.specs.Complex.{noNumber, oneF, zeroNumber, sum, realOver}
 use Rattle.numbers.specs.Places.{numberAt, setNumber}
 use Rattle.numbers.proofs.Laws.{length-setNumber, number-other}
 use Rattle.lattice.specs.declared.grid.Grid3d.{Grid3d}
 use Rattle.lattice.specs.declared.grid.Position.{Position}
 use Rattle.lattice.specs.declared.levels.Three.{Three}
-use Rattle.lattice.specs.Grid.{axis3, nOf, indexOf, atOf, unknownsOf, placeOn, movedTo, Limits, Inside}
-use Rattle.lattice.specs.Lattice.{Medium, tabulate}
-use Rattle.lattice.specs.Line.{before, Rises}
-use Rattle.lattice.specs.Rows.{summed}
+use Rattle.lattice.specs.Grid.{nOf, indexOf, atOf, unknownsOf, placeOn, movedTo, Limits, Inside}
+use Rattle.lattice.specs.Lattice.{FullLattice}
+use Rattle.numbers.specs.Lists.{tabulate, before, Rises, summed, laidNumbers, allFinite, readFrom}
 use Rattle.lattice.proofs.GridLaws.{axis-each, n-most, place-inside, moved-inside, index-below, at-inside, unknowns-most}
-use Rattle.lattice.proofs.LineLaws.{nodes-at, rises-below}
+use Rattle.lattice.proofs.LineLaws.{nodes-at}
+use Rattle.numbers.proofs.ListLaws.{rises-below, laid-numbers-length, read-back}
 use Rattle.lattice.proofs.RowLaws.{small-float}
-use Rattle.lattice.proofs.TabulateLaws.{length-tabulate, tabulate-agree}
-use Rattle.weights.proofs.ListLaws.{laid-numbers-length, read-back}
+use Rattle.numbers.proofs.TabulateLaws.{tabulate-at-0, length-tabulate, tabulate-agree}
+use Rattle.numbers.proofs.Equations.{readFrom-is, summed-nil, summed-cons}
+use Rattle.lattice.proofs.Equations.{nOf-0, nOf-1, nOf-2}
+use Rattle.numbers.proofs.RowLoops.{Spread, spread-start, spread-turn, spread-end}
+use Rattle.numbers.proofs.LoopLaws.{tabulate-left, tabulate-done, tabulate-member, before-more}
+use Rattle.weights.proofs.RowTheorems.{harmonic-local}
 use Rattle.weights.proofs.TwoLevelLaws.{fine-grid, coarse-grid, fine-n, coarse-n, node-at}
-use Rattle.weights.specs.Lists.{laidBy, laidNumbers, allFinite}
-use Rattle.weights.specs.TwoLevels.{
-  TwoLevels,
-  fineLine,
-  coarseLine,
-  coarseCells,
-  nodeOn,
-  gridWith,
-  fineGrid,
-  coarseGrid,
-  twoOf,
-}
+use Rattle.weights.specs.TwoLevels.{TwoLevels, fineLine, coarseLine, coarseCells, nodeOn, gridWith, fineGrid, coarseGrid, twoOf}
 use Rattle.weights.specs.Interpolate.{whole}
 use Rattle.weights.specs.CoarseEps.{onFine, edgeAlong, edgesAlong, cellEdges, epsReads, inverted, harmonic, coarseEps}
-use Rattle.weights.specs.Tables.{
-  nodeNo,
-  Paired,
-  readFrom,
-  onFineIn,
-  cellFirst,
-  cellLast,
-  coarseEpsIn,
-  LineInside,
-  NestedIn,
-  ChainRoom,
-}
+use Rattle.weights.specs.Tables.{nodeNo, Paired, onFineIn, cellFirst, cellLast, coarseEpsIn, LineInside, NestedIn, ChainRoom}
 
 -- ---- a loop over a cell: the sum of the rest, from place m on, comes to the whole
 
@@ -68,14 +48,13 @@ adding-start e = record { same = rw e }
 module _ {g : Grid3d} {xs : List Float} {from : ℕ} {p : Position} {first last m : ℕ} {s : C64} (a : Adding g xs from p first last m s) where
   pub adding-turn : {q : Position} {c : ℕ} {v w s′ : C64} → m < last → q ≡ movedTo p (p .component) m → c ≡ indexOf g q
       → v ≡ numberAt xs (from + c) → w ≡ realOver oneF v → s′ ≡ sum s w → Adding g xs from p first last (m + 1) s′
-  unfolding edgesAlong tabulate summed inverted readFrom edgeAlong
+  unfolding edgesAlong inverted edgeAlong
   adding-turn {q} {c} {v} {w} {s′} h e₁ e₂ e₃ e₄ e₅ =
-      let e : last - m ≡ suc (last - (m + 1)) = omega arith in
-      record { same = rw (e₅, e₄, e₃, e₂, e₁, add-one m) (rw (e, add-one m) at (a .same)) }
+      record { same = rw (e₅, e₄, e₃, ← readFrom-is, e₂, e₁) (rw (tabulate-left (edgeAlong g p) last m h, summed-cons) at (a .same)) }
 
   pub adding-end : last ≤ m → s ≡ summed (inverted (readFrom xs from)) zeroNumber (edgesAlong g p first (last - first))
-  unfolding edgesAlong tabulate summed
-  adding-end h = let e : last - m ≡ 0 = omega arith in rw e at (a .same)
+  unfolding edgesAlong
+  adding-end h = rw (tabulate-done (edgeAlong g p) last m h, summed-nil) at (a .same)
 
 -- the position of place m along, and the number of its edge
 pub along-inside : {g : Grid3d} {p q : Position} {last m : ℕ} → LineInside g p last → m < last → q ≡ movedTo p (p .component) m → Inside g q
@@ -89,14 +68,14 @@ along-low l h b e d = rw d (index-below l (along-inside h b e))
 
 module _ {gf gc : Grid3d} {nn : List ℕ} {p : Position} (d : NestedIn gf gc nn) (h : Inside gc p) where
   pub fine-inside : Inside gf (onFineIn nn p)
-  unfolding onFineIn nOf axis3
+  unfolding onFineIn
   fine-inside =
       let x : 65 * 0 + p .i ≡ p .i = omega arith in
       record {
         c-in = h .c-in;
-        i-in = rw x at (d .inside 0 (p .i) (omega arith) (h .i-in));
-        j-in = d .inside 1 (p .j) (omega arith) (h .j-in);
-        k-in = d .inside 2 (p .k) (omega arith) (h .k-in);
+        i-in = rw (x, nOf-0) at (d .inside 0 (p .i) (omega arith) (rw nOf-0 (h .i-in)));
+        j-in = rw nOf-1 at (d .inside 1 (p .j) (omega arith) (rw nOf-1 (h .j-in)));
+        k-in = rw nOf-2 at (d .inside 2 (p .k) (omega arith) (rw nOf-2 (h .k-in)));
       }
 
   pub cell-most : cellLast nn p ≤ nOf gf (p .component)
@@ -169,48 +148,35 @@ module _ {gf gc : Grid3d} {nn : List ℕ} {p : Position} {m : ℕ} (c : Cell gf 
 -- ---- what is read: the edges of the fine grid alone
 
 module _ (f g : ℕ → C64) where
-  summed-agree : (e : ℕ → ℕ) (n k : ℕ) (s : C64) → ((m : ℕ) → k ≤ m → m < k + n → f (e m) ≡ g (e m))
-      → summed (inverted f) s (tabulate e n k) ≡ summed (inverted g) s (tabulate e n k)
-  unfolding summed tabulate inverted
-  summed-agree e zero k s h = refl
-  summed-agree e (suc n) k s h =
-      ap (λ (v : C64). summed (inverted f) (sum s (realOver oneF v)) (tabulate e n (suc k))) (h k (omega arith) (omega arith))
-      ∙ summed-agree e n (suc k) (sum s (realOver oneF (g (e k)))) (λ m a b. h m (omega arith) (omega arith))
-
   eps-agree : {gf gc : Grid3d} {nn : List ℕ} → Limits gf → Limits gc → NestedIn gf gc nn → ((c : ℕ) → c < unknownsOf gf → f c ≡ g c)
       → (r : ℕ) → r < unknownsOf gc → coarseEpsIn gf gc nn f r ≡ coarseEpsIn gf gc nn g r
-  unfolding coarseEpsIn harmonic edgesAlong edgeAlong
+  unfolding coarseEpsIn edgesAlong edgeAlong
   eps-agree {gf} {gc} {nn} lf lc d h r b =
       let p : Position = atOf gc r in
       let i : Inside gc p = at-inside lc r b in
       let k : LineInside gf (onFineIn nn p) (cellLast nn p) = cell-inside d i in
-      ap (realOver (whole (length (edgesAlong gf (onFineIn nn p) (cellFirst nn p) (cellLast nn p - cellFirst nn p)))))
-      (summed-agree (edgeAlong gf (onFineIn nn p)) (cellLast nn p - cellFirst nn p) (cellFirst nn p) zeroNumber
-      (λ m a c. h (edgeAlong gf (onFineIn nn p) m) (index-below lf (k .each-in m (omega (arith, cell-rises d i))))))
+      harmonic-local f g (edgesAlong gf (onFineIn nn p) (cellFirst nn p) (cellLast nn p - cellFirst nn p))
+      (λ c m.
+      let w = tabulate-member (edgeAlong gf (onFineIn nn p)) (cellLast nn p - cellFirst nn p) (cellFirst nn p) m in
+      h c (rw (w .3) (index-below lf (k .each-in (w .0) (omega (arith, w .1, w .2, cell-rises d i))))))
 
 -- ---- a loop over a level: f 0, .., f (n - 1) are laid from place `to` on, r of them done. The rest comes to the whole, and before `to` all is as it was.
 
 pub record Chaining (f : ℕ → C64) (n to : ℕ) (xs ys : List Float) (r : ℕ) : Type 0 where
   pub high : r ≤ n
-  pub rest : laidNumbers ys (to + r) (tabulate f (n - r) r) ≡ laidNumbers xs to (tabulate f n 0)
+  pub rest : Spread setNumber xs to (tabulate f n 0) r ys
   pub long : length ys ≡ length xs
   pub left : (j : ℕ) → j < to → numberAt ys j ≡ numberAt xs j
 
 pub chaining-start : {f : ℕ → C64} {n to : ℕ} {xs : List Float} → Chaining f n to xs xs 0
-chaining-start {f} {n} {to} {xs} =
-    let a : to + 0 ≡ to = omega arith in
-    let b : n - 0 ≡ n = omega arith in
-    record { high = omega arith; rest = rw (a, b); long = refl; left = λ j h. refl }
+chaining-start = record { high = omega arith; rest = spread-start; long = refl; left = λ j h. refl }
 
 pub chaining-one : {f : ℕ → C64} {n to : ℕ} {xs ys zs : List Float} {r : ℕ} {v : C64} → Chaining f n to xs ys r → r < n → v ≡ f r
     → zs ≡ setNumber ys (to + r) v → Chaining f n to xs zs (r + 1)
-unfolding laidBy tabulate
 chaining-one {f} {n} {to} {xs} {ys} {zs} {r} {v} p h e q =
-    let a : n - r ≡ suc (n - (r + 1)) = omega arith in
-    let b : to + (r + 1) ≡ suc (to + r) = omega arith in
     record {
       high = omega arith;
-      rest = rw (q, e, b, add-one r) (rw (a, add-one r) at (p .rest));
+      rest = rw q (spread-turn noNumber (p .rest) (rw (length-tabulate f n 0) h) (e ∙ sym (tabulate-at-0 f n r noNumber h)));
       long = ap length q ∙ length-setNumber ys (to + r) v ∙ p .long;
       left = λ j k. ap (λ (ws : List Float). numberAt ws j) q ∙ number-other ys (to + r) j v (omega arith) ∙ p .left j k;
     }
@@ -220,18 +186,14 @@ pub chaining-turn : {gf gc : Grid3d} {nn : List ℕ} {n from to r : ℕ} {xs ys 
     → ChainRoom (unknownsOf gf) (unknownsOf gc) from to xs → Chaining (coarseEpsIn gf gc nn (readFrom xs from)) n to xs ys r
     → r < n → n ≡ unknownsOf gc → v ≡ coarseEpsIn gf gc nn (readFrom ys from) r → zs ≡ setNumber ys (to + r) v
     → Chaining (coarseEpsIn gf gc nn (readFrom xs from)) n to xs zs (r + 1)
-unfolding readFrom
 chaining-turn {gf} {gc} {nn} {n} {from} {to} {r} {xs} {ys} lf lc d m p h e q z =
     chaining-one p h
-    (q ∙ eps-agree (readFrom ys from) (readFrom xs from) lf lc d (λ c b. p .left (from + c) (omega (arith, m .apart))) r (omega arith))
+    (q ∙ eps-agree (readFrom ys from) (readFrom xs from) lf lc d (λ c b. rw (readFrom-is, readFrom-is) (p .left (from + c) (omega (arith, m .apart)))) r (omega arith))
     z
 
 pub chaining-end : {f : ℕ → C64} {n m to : ℕ} {xs ys : List Float} {r : ℕ} → Chaining f n to xs ys r → n ≤ r → n ≡ m
     → ys ≡ laidNumbers xs to (tabulate f m 0)
-unfolding laidBy tabulate
-chaining-end {f} {n} {m} {to} {xs} {ys} {r} p h e =
-    let a : n - r ≡ 0 = omega arith in
-    rw e at (rw a at (p .rest))
+chaining-end {f} {n} p h e = rw e at (spread-end (p .rest) (rw (length-tabulate f n 0) h))
 
 -- the list still has all that is read
 pub chaining-room : {f : ℕ → C64} {n m k from to r : ℕ} {xs ys : List Float} → ChainRoom n m from to xs → Chaining f k to xs ys r
@@ -239,16 +201,6 @@ pub chaining-room : {f : ℕ → C64} {n m k from to r : ℕ} {xs ys : List Floa
 chaining-room m p = (omega (arith, m .apart, m .low), omega (arith, m .apart, m .room, p .long))
 
 -- ---- from the levels
-
--- the ends before a later place are at least as many
-before-more : (d e : ℕ) → d ≤ e → (es : List ℕ) → before d es ≤ before e es
-unfolding before
-before-more d e h [] = omega arith
-before-more d e h (f ∷ es) = go (ltb f d) refl (before-more d e h es)
-  where
-    go : (s : Bool) → ltb f d ≡ s → before d es ≤ before e es → cond s (suc (before d es)) 0 ≤ before e (f ∷ es)
-    go false q r = omega arith
-    go true q r = rw (lt-ltb f e (omega (arith, ltb-true f d q))) (suc-le-suc r)
 
 -- the nodes of a rising line rise
 nodes-rise : (t : TwoLevels) (a m : ℕ) → Rises (coarseLine t a) → m < coarseCells t a → nodeOn t a m ≤ nodeOn t a (m + 1)
@@ -260,7 +212,7 @@ nodes-rise t a m r h =
     let v : before (getD es m 0) fs ≤ before (getD es (m + 1) 0) fs = before-more (getD es m 0) (getD es (m + 1) 0) (omega arith) fs in
     omega (arith, nodes-at fs es m (omega arith), nodes-at fs es (m + 1) (omega arith))
 
-module _ {l : Medium} {fine coarse : Three} (p : Paired l fine coarse) where
+module _ {l : FullLattice} {fine coarse : Three} (p : Paired l fine coarse) where
   line-rises : (a : ℕ) → Rises (coarseLine (twoOf l fine coarse) a)
   unfolding coarseLine twoOf
   line-rises a = axis-each Rises a (p .x-rises) (p .y-rises) (p .z-rises)
@@ -294,7 +246,7 @@ module _ (t : TwoLevels) (lc : Limits (coarseGrid t)) where
       let z : getD (tabulate (nodeNo t) 195 0) (130 + p .k) 0 ≡ nodeOn t 2 (p .k) = node-at t refl 2 (p .k) (omega arith) (omega (arith, h .k-in, lc .z-most)) in
       λ i. record { component = p .component; i = x i; j = y i; k = z i }
 
-  cell-is : {p : Position} → Inside (coarseGrid t) p
+  pub cell-is : {p : Position} → Inside (coarseGrid t) p
       → let nn = tabulate (nodeNo t) 195 0 in edgesAlong (fineGrid t) (onFineIn nn p) (cellFirst nn p) (cellLast nn p - cellFirst nn p) ≡ cellEdges t p
   unfolding edgesAlong cellEdges cellFirst cellLast edgeAlong onFine
   cell-is {p} h =
@@ -304,7 +256,8 @@ module _ (t : TwoLevels) (lc : Limits (coarseGrid t)) where
       let e : 65 * c + m + 1 ≡ 65 * c + (m + 1) = omega arith in
       rw (e, node-at t refl c m (h .c-in) (omega arith), node-at t refl c (m + 1) (h .c-in) (omega arith), on-fine-is h)
 
-  eps-same : (f : ℕ → C64) (r : ℕ) → r < unknownsOf (coarseGrid t) → coarseEpsIn (fineGrid t) (coarseGrid t) (tabulate (nodeNo t) 195 0) f r ≡ coarseEps t f r
+  -- coarse edge r from the list of nodes has the permittivity of the levels
+  pub eps-same : (f : ℕ → C64) (r : ℕ) → r < unknownsOf (coarseGrid t) → coarseEpsIn (fineGrid t) (coarseGrid t) (tabulate (nodeNo t) 195 0) f r ≡ coarseEps t f r
   unfolding coarseEpsIn coarseEps epsReads
   eps-same f r h = ap (harmonic f) (cell-is (at-inside lc r h))
 
@@ -317,14 +270,14 @@ module _ (t : TwoLevels) (lc : Limits (coarseGrid t)) where
 
 -- ---- the whole: the code's grids and nodes are those of the levels, and the list has room
 
-pub record Chain (l : Medium) (fine coarse : Three) (gf gc : Grid3d) (nn : List ℕ) (from to : ℕ) (xs : List Float) : Type 0 where
+pub record Chain (l : FullLattice) (fine coarse : Three) (gf gc : Grid3d) (nn : List ℕ) (from to : ℕ) (xs : List Float) : Type 0 where
   pub paired : Paired l fine coarse
   pub room : ChainRoom (unknownsOf (fineGrid (twoOf l fine coarse))) (unknownsOf (coarseGrid (twoOf l fine coarse))) from to xs
   pub fine-grid : gf ≡ fineGrid (twoOf l fine coarse)
   pub coarse-grid : gc ≡ coarseGrid (twoOf l fine coarse)
   pub node-list : nn ≡ tabulate (nodeNo (twoOf l fine coarse)) 195 0
 
-pub chain : {l : Medium} {fine coarse : Three} {gf gc : Grid3d} {nn : List ℕ} {from to : ℕ} {xs : List Float} → Paired l fine coarse
+pub chain : {l : FullLattice} {fine coarse : Three} {gf gc : Grid3d} {nn : List ℕ} {from to : ℕ} {xs : List Float} → Paired l fine coarse
     → ChainRoom (unknownsOf (fineGrid (twoOf l fine coarse))) (unknownsOf (coarseGrid (twoOf l fine coarse))) from to xs
     → gf ≡ gridWith (l .grid) (fine .x .cells) (fine .y .cells) (fine .z .cells)
     → gc ≡ gridWith (l .grid) (coarse .x .cells) (coarse .y .cells) (coarse .z .cells)
@@ -338,7 +291,7 @@ chain {l} {fine} {coarse} p m a b c =
       node-list = c;
     }
 
-module _ {l : Medium} {fine coarse : Three} {gf gc : Grid3d} {nn : List ℕ} {from to : ℕ} {xs : List Float} (q : Chain l fine coarse gf gc nn from to xs) where
+module _ {l : FullLattice} {fine coarse : Three} {gf gc : Grid3d} {nn : List ℕ} {from to : ℕ} {xs : List Float} (q : Chain l fine coarse gf gc nn from to xs) where
   pub fine-in : Limits gf
   fine-in = rw (q .fine-grid) (q .paired .fine-limits)
 

@@ -18,19 +18,20 @@ use Rattle.lattice.specs.declared.lattice.Edges.{Edges}
 use Rattle.lattice.specs.declared.lattice.Edges.the-variants.{Pml, Bloch}
 use Rattle.lattice.specs.declared.neighbours.Arrival.{Arrival}
 use Rattle.lattice.specs.declared.neighbours.Arrival.the-variants.{To, Beyond}
-use Rattle.lattice.specs.Lattice.{isWall, tabulate}
+use Rattle.lattice.specs.Lattice.{isWall}
+use Rattle.numbers.specs.Lists.{tabulate, entryAt, placesIn}
 use Rattle.lattice.specs.Neighbours.{pastHigh}
-use Rattle.lattice.specs.Terms.{Term}
+use Rattle.numbers.specs.Terms.{Term}
 use Rattle.lattice.proofs.LevelLaws.{in-double}
-use Rattle.lattice.proofs.LineLaws.{before-is}
-use Rattle.lattice.proofs.TabulateLaws.{length-tabulate, tabulate-at, tabulate-at-0}
+use Rattle.numbers.proofs.ElementLaws.{before-is}
+use Rattle.numbers.proofs.TabulateLaws.{length-tabulate, tabulate-at, tabulate-at-0}
 use Rattle.weights.specs.declared.interpolate.Rule.{Rule}
 use Rattle.weights.specs.declared.interpolate.Rule.the-variants.{Coincides, Nearest, Between, Dropped}
 use Rattle.weights.specs.declared.interpolate.Spots.{Spots}
 use Rattle.weights.specs.declared.interpolate.Pulls.{Pulls}
 use Rattle.weights.specs.Interpolate.{upTo, meets, outside, ruleBy, ruleOf, pastFirst, lowSide, highSide, sidePlaces, rulePlaces, takenPlaces, whole, coordinate, lowCoordinate, highCoordinate, ratio, ratioAt, twoSides, ruleTerms, interpolated}
 use Rattle.weights.specs.Product.{keptPlaces, keptTerms}
-use Rattle.weights.specs.Tables.{entryAt, placesIn, spotsOf, spotList, pullsOf, pullList, mapPoint, mapIn}
+use Rattle.weights.specs.Tables.{spotsOf, spotList, pullsOf, pullList, mapPoint, mapIn}
 
 -- the first place and the period
 pub first-wrapped : (ps : List ℕ) (e n period : ℕ) → 0 < n → period < 129 → ((m : ℕ) → m < n → getD ps (e + m) 0 < 129) → getD ps e 0 + period < 258
@@ -223,7 +224,7 @@ module _ (xs : List Float) (b p : ℕ) {e : Edges} where
   pub coordinate-past : e ≡ Pml → 129 ≤ p → noNumber ≡ coordinate e (mapIn xs b) p
   coordinate-past q h = rw q (sym (map-past xs b p h))
 
-pub coordinate-place : (x : List C64) (p : ℕ) {e : Edges} {re im : Float} → e ≡ Bloch re im
+pub coordinate-place : (x : List C64) (p : ℕ) {e : Edges} {phase : C64} → e ≡ Bloch phase
     → record { re = ofInt binary64 (pos p); im = zeroF } ≡ coordinate e x p
 unfolding whole
 coordinate-place x p q = rw q

@@ -5,10 +5,10 @@ use native.Mathlib.Nat.{not-suc-le-zero}
 use native.Mathlib.Omega.{arith}
 use mathlib.Core.Path.{_≡_, refl, sym, ap, _∙_}
 use mathlib.Core.Bool.{Bool, true, false, cond}
-use mathlib.Core.List.{List, [], _∷_, map}
+use mathlib.Core.List.{List, [], map}
 use borrow.Author.Tests.{ltb-true, lt-ltb}
 use lib.Dec.{ltb}
-use lib.ListN.{length, getD, set, length-append}
+use lib.ListN.{length, getD, set}
 use lib.Seq.{ext-getD}
 use lib.Ieee.{Float}
 use Rattle.numbers.specs.declared.C64.{C64}
@@ -17,105 +17,46 @@ use Rattle.numbers.specs.Places.{numberAt, setNumber}
 use Rattle.lattice.specs.declared.grid.Grid3d.{Grid3d}
 use Rattle.lattice.specs.declared.grid.Position.{Position}
 use Rattle.lattice.specs.declared.levels.Three.{Three}
-use Rattle.lattice.specs.Grid.{axis3, nOf, placeOn, atOf, unknownsOf, Limits, Inside}
-use Rattle.lattice.specs.Lattice.{Medium, tabulate}
-use Rattle.lattice.specs.Terms.{Term, each}
+use Rattle.lattice.specs.Grid.{nOf, placeOn, atOf, unknownsOf, Limits, Inside}
+use Rattle.lattice.specs.Lattice.{FullLattice}
+use Rattle.numbers.specs.Lists.{tabulate, each, rows, Laid, laidNumbers, allFinite, startOf, startsOf, someRepeats, Numbers, entryAt, placesIn}
+use Rattle.numbers.specs.Terms.{Term, numbersOf}
 use Rattle.lattice.proofs.GridLaws.{n-most, place-inside, at-inside, unknowns-most}
-use Rattle.lattice.proofs.TabulateLaws.{length-tabulate, tabulate-at}
-use Rattle.weights.specs.Lists.{rows, Laid, laidNumbers, allFinite}
-use Rattle.weights.specs.TwoLevels.{TwoLevels, fineCells, nodeOn, fineGrid, coarseGrid, twoOf}
-use Rattle.weights.specs.Transfer.{numbersOf, startOf, startsOf, someRepeats}
-use Rattle.weights.specs.Prolongation.{isAlong, readPlace, readEdge, weightAt, weightColumns, weightNumbers}
-use Rattle.weights.specs.Product.{
-  freePlaces,
-  freeTerms,
-  columnIn,
-  productZ,
-  productY,
-  productColumns,
-  termOf,
-  productTermsZ,
-  productTermsY,
-  productTerms,
-  weightCount,
-}
-use Rattle.weights.specs.Tables.{
-  slotAxis,
-  slotAlong,
-  slotPlace,
-  slotOf,
-  slotPlaces,
-  slotTerms,
-  countEntry,
-  placeEntry,
-  nodeEntry,
-  pullEntry,
-  Numbers,
-  Paired,
-  entryAt,
-  placesIn,
-  pullsIn,
-  slotOn,
-  columnsInZ,
-  columnsInY,
-  columnsIn,
-  weightIn,
-  numberIn,
-  numbersInZ,
-  numbersInY,
-  numbersIn,
-  PlacesOf,
-  NodesOf,
-  RoomFor,
-  SpanOf,
-  columnsRow,
-  numbersRow,
-  countIn,
-  CountsOf,
-  countedTo,
-  countFrom,
-  placeFrom,
-  nodeNo,
-  nodeFrom,
-  mapNo,
-  endNo,
-  linesIn,
-  pullFrom,
-}
+use Rattle.numbers.proofs.TabulateLaws.{length-tabulate, tabulate-at}
+use Rattle.lattice.specs.Levels.{threeAt}
+use Rattle.weights.proofs.Equations.{weightNumbers-is}
+use Rattle.weights.proofs.PairLaws.{two-at, paired-at}
+use Rattle.weights.specs.TwoLevels.{TwoLevels, fineCells, nodeOn, fineGrid, coarseGrid, twoAt, twoOf}
+use Rattle.weights.specs.Prolongation.{isAlong, readPlace, readEdge, weightAt, weightColumns, weightNumbers, prolongationRow}
+use Rattle.weights.specs.Product.{freePlaces, freeTerms, columnIn, productZ, productY, productColumns, termOf, productTermsZ, productTermsY, productTerms, weightCount}
+use Rattle.weights.specs.Tables.{slotAxis, slotAlong, slotPlace, slotOf, slotPlaces, slotTerms, countEntry, placeEntry, nodeEntry, pullEntry, Paired, pullIn, pullsIn, slotOn, columnsInZ, columnsInY, columnsIn, weightIn, numberIn, numbersInZ, numbersInY, numbersIn, PlacesOf, NodesOf, RoomFor, SpanOf, columnsRow, numbersRow, countIn, CountsOf, countedTo, countFrom, placeFrom, nodeNo, nodeFrom, mapNo, endNo, linesIn, pullFrom}
 use Rattle.weights.specs.declared.rows.Pull.{Pull}
-use Rattle.weights.proofs.ListLaws.{rows-agree, long-as, read-at, read-back, laid-numbers-same, start-agree, starts-agree}
-use Rattle.weights.proofs.EachLaws.{numbers-append, length-columns, columns-at as column-at, numbers-at as number-at}
+use Rattle.numbers.proofs.ListLaws.{rows-agree, long-as, read-at, read-back, laid-numbers-same, start-agree, starts-agree}
+use Rattle.numbers.proofs.EachLaws.{length-columns, columns-at as column-at, numbers-at as number-at}
+use Rattle.numbers.proofs.Equations.{startOf-is}
+use Rattle.lattice.proofs.Equations.{placeOn-0, placeOn-1, placeOn-2}
+use Rattle.numbers.proofs.RepeatLaws.{repeats-agree}
+use Rattle.numbers.proofs.LoopLaws.{either-below, tabulate-map, numbers-one, numbers-each, start-zero, start-suc, start-long}
 use Rattle.weights.proofs.RowLaws.{slot-part}
 use Rattle.weights.proofs.TwoLevelLaws.{fine-n, coarse-n}
 use Rattle.weights.proofs.ProductLaws.{columns-product, terms-product, free-columns, free-most, numbers-count, count-product, starts-few}
-use Rattle.weights.proofs.SlotLaws.{
-  slot-most,
-  slot-inside,
-  coarse-some,
-  Worked,
-  at-fine,
-  at-coarse,
-  counts-are,
-  places-are,
-  nodes-are,
-  places-low,
-  pulls-are,
-}
+use Rattle.weights.proofs.TableLaws.{noTerm}
+use Rattle.weights.proofs.SlotLaws.{slot-most, slot-inside, coarse-some, Worked, at-fine, at-coarse, counts-are, places-are, nodes-are, places-low, pulls-are}
 
 -- ---- the slot of an axis, a role and a place
 
 module _ (a i : ℕ) (h : i < 64) where
-  slot-axis : (along : Bool) → slotAxis (slotOf a along i) ≡ a
+  pub slot-axis : (along : Bool) → slotAxis (slotOf a along i) ≡ a
   unfolding slotAxis slotOf
   slot-axis true = omega arith
   slot-axis false = omega arith
 
-  slot-along : (along : Bool) → slotAlong (slotOf a along i) ≡ along
+  pub slot-along : (along : Bool) → slotAlong (slotOf a along i) ≡ along
   unfolding slotAlong slotOf
   slot-along true = let e : (128 * a + 64 + i) / 64 % 2 ≡ 1 = omega arith in rw e
   slot-along false = let e : (128 * a + 0 + i) / 64 % 2 ≡ 0 = omega arith in rw e
 
-  slot-place : (along : Bool) → slotPlace (slotOf a along i) ≡ i
+  pub slot-place : (along : Bool) → slotPlace (slotOf a along i) ≡ i
   unfolding slotPlace slotOf
   slot-place true = omega arith
   slot-place false = omega arith
@@ -143,7 +84,7 @@ module _ (t : TwoLevels) (q d : ℕ) (h : d < 2) where
   unfolding placeEntry
   entry-place = rw (entry-slot q d h, entry-no q d h)
 
-  entry-node : nodeEntry t (2 * q + d) ≡ cond (slotAlong q) (slotPlace q) (nodeOn t (slotAxis q) (getD (slotPlaces t q) d 0))
+  pub entry-node : nodeEntry t (2 * q + d) ≡ cond (slotAlong q) (slotPlace q) (nodeOn t (slotAxis q) (getD (slotPlaces t q) d 0))
   unfolding nodeEntry
   entry-node = rw (entry-place, entry-slot q d h)
 
@@ -185,27 +126,27 @@ module _ (t : TwoLevels) (p : Position) (m : Limits (fineGrid t)) (f : Inside (f
   on-fine : (a : ℕ) → placeOn p a < fineCells t a
   on-fine a = rw fine-n at (place-inside f a)
 
-  on-low : (a : ℕ) → placeOn p a < 64
+  pub on-low : (a : ℕ) → placeOn p a < 64
   on-low a = omega (arith, place-inside f a, n-most m a)
 
-  on-slot : (a : ℕ) → a < 3 → slotOn p a (placeOn p a) < 384
+  pub on-slot : (a : ℕ) → a < 3 → slotOn p a (placeOn p a) < 384
   on-slot a h = slot-part p a (placeOn p a) h (on-low a) .below
 
-  on-free : (a : ℕ) → slotPlaces t (slotOn p a (placeOn p a)) ≡ freePlaces t a (isAlong p a) (placeOn p a)
+  pub on-free : (a : ℕ) → slotPlaces t (slotOn p a (placeOn p a)) ≡ freePlaces t a (isAlong p a) (placeOn p a)
   unfolding slotOn
   on-free a = slot-free a (placeOn p a) (on-low a) t (isAlong p a) (on-fine a)
 
   module _ {ns : List ℕ} (n : ns ≡ tabulate (countEntry t) 384 0) where
-    on-count : (a : ℕ) → a < 3 → getD ns (slotOn p a (placeOn p a)) 0 ≡ length (freePlaces t a (isAlong p a) (placeOn p a))
+    pub on-count : (a : ℕ) → a < 3 → getD ns (slotOn p a (placeOn p a)) 0 ≡ length (freePlaces t a (isAlong p a) (placeOn p a))
     on-count a h = count-is t n (slotOn p a (placeOn p a)) (on-slot a h) ∙ ap (λ (ms : List ℕ). length ms) (on-free a)
 
     -- how many weights its row has
     pub count-at : countIn ns p ≡ weightCount t p
-    unfolding countIn weightCount placeOn axis3
+    unfolding countIn weightCount
     count-at =
-        let x : getD ns (slotOn p 0 (p .i)) 0 ≡ length (freePlaces t 0 (isAlong p 0) (p .i)) = on-count 0 (omega arith) in
-        let y : getD ns (slotOn p 1 (p .j)) 0 ≡ length (freePlaces t 1 (isAlong p 1) (p .j)) = on-count 1 (omega arith) in
-        let z : getD ns (slotOn p 2 (p .k)) 0 ≡ length (freePlaces t 2 (isAlong p 2) (p .k)) = on-count 2 (omega arith) in
+        let x : getD ns (slotOn p 0 (p .i)) 0 ≡ length (freePlaces t 0 (isAlong p 0) (p .i)) = rw placeOn-0 at (on-count 0 (omega arith)) in
+        let y : getD ns (slotOn p 1 (p .j)) 0 ≡ length (freePlaces t 1 (isAlong p 1) (p .j)) = rw placeOn-1 at (on-count 1 (omega arith)) in
+        let z : getD ns (slotOn p 2 (p .k)) 0 ≡ length (freePlaces t 2 (isAlong p 2) (p .k)) = rw placeOn-2 at (on-count 2 (omega arith)) in
         rw (x, y, z)
 
     module _ {ps : List ℕ} (s : ps ≡ tabulate (placeEntry t) 768 0) where
@@ -215,55 +156,29 @@ module _ (t : TwoLevels) (p : Position) (m : Limits (fineGrid t)) (f : Inside (f
 -- ---- columns
 
 -- what agrees for each element
-each-both : {A B : Type 0} (f g : A → List B) (xs ys : List A) → ((x : A) → f x ≡ g x) → xs ≡ ys → each f xs ≡ each g ys
+pub each-both : {A B : Type 0} (f g : A → List B) (xs ys : List A) → ((x : A) → f x ≡ g x) → xs ≡ ys → each f xs ≡ each g ys
 each-both f g xs ys p q = λ k. each (λ x. p x k) (q k)
 
 module _ (t : TwoLevels) (p : Position) (m : Limits (fineGrid t)) (f : Inside (fineGrid t) p) {ps ns : List ℕ}
     (n : ns ≡ tabulate (countEntry t) 384 0) (s : ps ≡ tabulate (placeEntry t) 768 0) where
   columns-z : (i j : ℕ) → columnsInZ (coarseGrid t) ps ns p i j ≡ productZ t p i j
-  unfolding columnsInZ productZ columnIn placeOn axis3
-  columns-z i j = each-both (columnIn (coarseGrid t) p i j) (columnIn (coarseGrid t) p i j) _ _ (λ k. refl) (on-list t p m f n s 2 (omega arith))
+  unfolding columnsInZ productZ columnIn
+  columns-z i j = each-both (columnIn (coarseGrid t) p i j) (columnIn (coarseGrid t) p i j) _ _ (λ k. refl) (rw placeOn-2 at (on-list t p m f n s 2 (omega arith)))
 
   columns-y : (i : ℕ) → columnsInY (coarseGrid t) ps ns p i ≡ productY t p i
-  unfolding columnsInY productY placeOn axis3
-  columns-y i = each-both (columnsInZ (coarseGrid t) ps ns p i) (productZ t p i) _ _ (columns-z i) (on-list t p m f n s 1 (omega arith))
+  unfolding columnsInY productY
+  columns-y i = each-both (columnsInZ (coarseGrid t) ps ns p i) (productZ t p i) _ _ (columns-z i) (rw placeOn-1 at (on-list t p m f n s 1 (omega arith)))
 
   -- the columns of a position's row
   pub columns-at : columnsIn (coarseGrid t) ps ns p ≡ productColumns t p
-  unfolding columnsIn productColumns placeOn axis3
-  columns-at = each-both (columnsInY (coarseGrid t) ps ns p) (productY t p) _ _ columns-y (on-list t p m f n s 0 (omega arith))
+  unfolding columnsIn productColumns
+  columns-at = each-both (columnsInY (coarseGrid t) ps ns p) (productY t p) _ _ columns-y (rw placeOn-0 at (on-list t p m f n s 0 (omega arith)))
 
 -- ---- numbers
 
 -- a term as an entry of a slot of a position
 unfoldable pullAs : TwoLevels → Position → ℕ → Term → Pull
 pullAs t p a x = record { place = x .column; node = readPlace t p a (x .column); weight = x .number }
-
--- a read past the end gives this
-abbrev noTerm : Term
-noTerm = record { column = 0; number = zeroNumber }
-
--- entries that are those of some terms, one by one
-pull-list : (ps ds : List ℕ) (xs : List Float) (g : Term → Pull) (ts : List Term) (e : ℕ)
-    → ((d : ℕ) → d < length ts → _≡_ {A = Pull} (record { place = getD ps (e + d) 0; node = getD ds (e + d) 0; weight = numberAt xs (e + d) }) (g (getD ts d noTerm)))
-    → pullsIn ps ds xs e (length ts) ≡ map g ts
-unfolding tabulate
-pull-list ps ds xs g [] e h = refl
-pull-list ps ds xs g (x ∷ ts) e h =
-    let z : e + 0 ≡ e = omega arith in
-    let one : _≡_ {A = Pull} (record { place = getD ps e 0; node = getD ds e 0; weight = numberAt xs e }) (g x) = rw z at (h 0 (omega arith)) in
-    let more : pullsIn ps ds xs (suc e) (length ts) ≡ map g ts =
-    pull-list ps ds xs g ts (suc e) (λ d b. let k : e + suc d ≡ suc e + d = omega arith in rw k at (h (suc d) (omega arith))) in
-    λ i. one i ∷ more i
-
--- what each entry gives, where it is what the term gives
-numbers-each : (f : Pull → List C64) (h : Term → List Term) (g : Term → Pull) → ((x : Term) → f (g x) ≡ numbersOf (h x)) → (ts : List Term)
-    → each f (map g ts) ≡ numbersOf (each h ts)
-unfolding each numbersOf
-numbers-each f h g e [] = refl
-numbers-each f h g e (x ∷ ts) =
-    let more : each f (map g ts) ≡ numbersOf (each h ts) = numbers-each f h g e ts in
-    rw (numbers-append (h x) (each h ts), e x, more)
 
 module _ (t : TwoLevels) {ps ds ns : List ℕ} {xs : List Float} (n : ns ≡ tabulate (countEntry t) 384 0) (s : ps ≡ tabulate (placeEntry t) 768 0)
     (o : ds ≡ tabulate (nodeEntry t) 768 0) (w : Numbers (pullEntry t) 768 xs) where
@@ -307,34 +222,34 @@ module _ (t : TwoLevels) {ps ds ns : List ℕ} {xs : List Float} (n : ns ≡ tab
         sym (length-columns ts) ∙ ap (λ (ms : List ℕ). length ms) (free-columns t a (isAlong p a) (placeOn p a)) in
         let l : getD ns (slotOn p a (placeOn p a)) 0 ≡ length ts = on-count t p m f n a h ∙ sym c in
         rw l
-        (pull-list ps ds xs (pullAs t p a) ts (2 * slotOn p a (placeOn p a))
+        (tabulate-map (pullIn ps ds xs) (pullAs t p a) noTerm ts (2 * slotOn p a (placeOn p a))
         (λ d b. on-pull a h d (omega (arith, c, free-most t a (isAlong p a) (placeOn p a)))))
 
     module _ (eps-f eps-c : ℕ → C64) where
-      numbers-one : (x y z : Term)
+      number-one : (x y z : Term)
           → numberIn (fineGrid t) (coarseGrid t) eps-f eps-c p (pullAs t p 0 x) (pullAs t p 1 y) (pullAs t p 2 z)
           ≡ numbersOf (termOf t eps-f eps-c p (x .column) (y .column) (product (x .number) (y .number)) z)
-      unfolding numberIn weightIn termOf weightAt readEdge numbersOf pullAs
-      numbers-one x y z = refl
+      unfolding numberIn weightIn termOf weightAt readEdge pullAs
+      number-one x y z = sym (numbers-one _)
 
       numbers-z : (x y : Term)
           → numbersInZ (fineGrid t) (coarseGrid t) eps-f eps-c ps ds ns xs p (pullAs t p 0 x) (pullAs t p 1 y)
           ≡ numbersOf (productTermsZ t eps-f eps-c p x y)
-      unfolding numbersInZ productTermsZ placeOn axis3
+      unfolding numbersInZ productTermsZ
       numbers-z x y =
-          let e : pullsIn ps ds xs (2 * slotOn p 2 (p .k)) (getD ns (slotOn p 2 (p .k)) 0) ≡ map (pullAs t p 2) (freeTerms t 2 (isAlong p 2) (p .k)) = on-pulls 2 (omega arith) in
+          let e : pullsIn ps ds xs (2 * slotOn p 2 (p .k)) (getD ns (slotOn p 2 (p .k)) 0) ≡ map (pullAs t p 2) (freeTerms t 2 (isAlong p 2) (p .k)) = rw placeOn-2 at (on-pulls 2 (omega arith)) in
           rw e
           (numbers-each (numberIn (fineGrid t) (coarseGrid t) eps-f eps-c p (pullAs t p 0 x) (pullAs t p 1 y))
           (termOf t eps-f eps-c p (x .column) (y .column) (product (x .number) (y .number)))
           (pullAs t p 2)
-          (numbers-one x y)
+          (number-one x y)
           (freeTerms t 2 (isAlong p 2) (p .k)))
 
       numbers-y : (x : Term)
           → numbersInY (fineGrid t) (coarseGrid t) eps-f eps-c ps ds ns xs p (pullAs t p 0 x) ≡ numbersOf (productTermsY t eps-f eps-c p x)
-      unfolding numbersInY productTermsY placeOn axis3
+      unfolding numbersInY productTermsY
       numbers-y x =
-          let e : pullsIn ps ds xs (2 * slotOn p 1 (p .j)) (getD ns (slotOn p 1 (p .j)) 0) ≡ map (pullAs t p 1) (freeTerms t 1 (isAlong p 1) (p .j)) = on-pulls 1 (omega arith) in
+          let e : pullsIn ps ds xs (2 * slotOn p 1 (p .j)) (getD ns (slotOn p 1 (p .j)) 0) ≡ map (pullAs t p 1) (freeTerms t 1 (isAlong p 1) (p .j)) = rw placeOn-1 at (on-pulls 1 (omega arith)) in
           rw e
           (numbers-each (numbersInZ (fineGrid t) (coarseGrid t) eps-f eps-c ps ds ns xs p (pullAs t p 0 x))
           (productTermsZ t eps-f eps-c p x)
@@ -343,9 +258,9 @@ module _ (t : TwoLevels) {ps ds ns : List ℕ} {xs : List Float} (n : ns ≡ tab
           (freeTerms t 1 (isAlong p 1) (p .j)))
 
       pub numbers-at : numbersIn (fineGrid t) (coarseGrid t) eps-f eps-c ps ds ns xs p ≡ numbersOf (productTerms t eps-f eps-c p)
-      unfolding numbersIn productTerms placeOn axis3
+      unfolding numbersIn productTerms
       numbers-at =
-          let e : pullsIn ps ds xs (2 * slotOn p 0 (p .i)) (getD ns (slotOn p 0 (p .i)) 0) ≡ map (pullAs t p 0) (freeTerms t 0 (isAlong p 0) (p .i)) = on-pulls 0 (omega arith) in
+          let e : pullsIn ps ds xs (2 * slotOn p 0 (p .i)) (getD ns (slotOn p 0 (p .i)) 0) ≡ map (pullAs t p 0) (freeTerms t 0 (isAlong p 0) (p .i)) = rw placeOn-0 at (on-pulls 0 (omega arith)) in
           rw e
           (numbers-each (numbersInY (fineGrid t) (coarseGrid t) eps-f eps-c ps ds ns xs p)
           (productTermsY t eps-f eps-c p)
@@ -365,7 +280,7 @@ slot-own t q d = go (ltb (slotPlace q) (fineCells t (slotAxis q))) refl
     go true e h = ltb-true _ _ e
     go false e h = absurd (not-suc-le-zero h)
 
-module _ {l : Medium} {fine coarse : Three} (p : Paired l fine coarse) {ps ns : List ℕ} (n : ns ≡ tabulate (countEntry (twoOf l fine coarse)) 384 0)
+module _ {l : FullLattice} {fine coarse : Three} (p : Paired l fine coarse) {ps ns : List ℕ} (n : ns ≡ tabulate (countEntry (twoOf l fine coarse)) 384 0)
     (s : ps ≡ tabulate (placeEntry (twoOf l fine coarse)) 768 0) where
   place-in : (q d : ℕ) → q < 384 → d < getD ns q 0 → getD ps (2 * q + d) 0 < nOf (coarseGrid (twoOf l fine coarse)) (q / 128)
   unfolding slotAxis
@@ -390,29 +305,15 @@ module _ {l : Medium} {fine coarse : Three} (p : Paired l fine coarse) {ps ns : 
         let t : TwoLevels = twoOf l fine coarse in
         let c : d < length (slotPlaces t q) = rw (count-is t n q h) at b in
         rw (node-is t n s o w q d h (omega (arith, slot-most t q)), fine-n t (q / 128))
-        (go (slotAlong q) (slot-own t q d c) (p .nested (q / 128) (getD (slotPlaces t q) d 0) (slot-inside t q (coarse-some p (q / 128)) d c)))
-      where
-        go : (b : Bool) {x y z : ℕ} → x < z → y < z → cond b x y < z
-        go true h k = h
-        go false h k = k
+        (either-below (slotAlong q) (slot-own t q d c) (p .nested (q / 128) (getD (slotPlaces t q) d 0) (slot-inside t q (coarse-some p (q / 128)) d c)))
 
     nodes-of : NodesOf (fineGrid (twoOf l fine coarse)) ds ns
     nodes-of = record { nodes-long = long-as (nodeEntry (twoOf l fine coarse)) 768 o; node-in = node-in }
 
--- ---- rows that agree
-
--- what they name twice
-repeats-agree : (f g : ℕ → List ℕ) (n : ℕ) → ((r : ℕ) → r < n → f r ≡ g r) → someRepeats f n ≡ someRepeats g n
-unfolding someRepeats
-repeats-agree f g zero h = refl
-repeats-agree f g (suc n) h =
-    let before : someRepeats f n ≡ someRepeats g n = repeats-agree f g n (λ r b. h r (omega arith)) in
-    rw (before, h n (omega arith))
-
 -- ---- the rows, from grids and lists that are those of two levels
 
 -- the places and the counts of the slots
-pub record Slotted (l : Medium) (fine coarse : Three) (gf gc : Grid3d) (ps ns : List ℕ) : Type 0 where
+pub record Slotted (l : FullLattice) (fine coarse : Three) (gf gc : Grid3d) (ps ns : List ℕ) : Type 0 where
   pub paired : Paired l fine coarse
   pub fine-is : gf ≡ fineGrid (twoOf l fine coarse)
   pub coarse-is : gc ≡ coarseGrid (twoOf l fine coarse)
@@ -420,13 +321,13 @@ pub record Slotted (l : Medium) (fine coarse : Three) (gf gc : Grid3d) (ps ns : 
   pub places : ps ≡ tabulate (placeEntry (twoOf l fine coarse)) 768 0
 
 -- the fine places and the weights besides
-pub record Pulled (l : Medium) (fine coarse : Three) (gf gc : Grid3d) (ps ns ds : List ℕ) (xs : List Float) : Type 0 where
+pub record Pulled (l : FullLattice) (fine coarse : Three) (gf gc : Grid3d) (ps ns ds : List ℕ) (xs : List Float) : Type 0 where
   pub slots : Slotted l fine coarse gf gc ps ns
   pub nodes : ds ≡ tabulate (nodeEntry (twoOf l fine coarse)) 768 0
   pub pulls : Numbers (pullEntry (twoOf l fine coarse)) 768 xs
 
 -- both as they are worked out
-pub slotted : {l : Medium} {fine coarse : Three} {gf gc : Grid3d} {fs cs ps ns : List ℕ} → Worked l fine coarse gf gc fs cs
+pub slotted : {l : FullLattice} {fine coarse : Three} {gf gc : Grid3d} {fs cs ps ns : List ℕ} → Worked l fine coarse gf gc fs cs
     → ns ≡ tabulate (countFrom l gf gc fs cs) 384 0 → ps ≡ tabulate (placeFrom l gf gc fs cs) 768 0 → Slotted l fine coarse gf gc ps ns
 slotted w n s =
     record {
@@ -437,13 +338,13 @@ slotted w n s =
       places = places-are w s;
     }
 
-pub pulled : {l : Medium} {fine coarse : Three} {gf gc : Grid3d} {fs cs ps ns nn ds es : List ℕ} {ms xs : List Float} → Worked l fine coarse gf gc fs cs
+pub pulled : {l : FullLattice} {fine coarse : Three} {gf gc : Grid3d} {fs cs ps ns nn ds es : List ℕ} {ms xs : List Float} → Worked l fine coarse gf gc fs cs
     → Slotted l fine coarse gf gc ps ns → nn ≡ tabulate (nodeNo (twoOf l fine coarse)) 195 0 → ds ≡ tabulate (nodeFrom nn ps) 768 0
     → Numbers (mapNo l) 774 ms → es ≡ tabulate (endNo (linesIn coarse)) 3 0 → Numbers (pullFrom l gf gc fs cs ms es) 768 xs
     → Pulled l fine coarse gf gc ps ns ds xs
 pulled w s n d m e x = record { slots = s; nodes = nodes-are (s .paired) n (s .places) d; pulls = pulls-are w m e x }
 
-module _ {l : Medium} {fine coarse : Three} {gf gc : Grid3d} {ps ns : List ℕ} (s : Slotted l fine coarse gf gc ps ns) where
+module _ {l : FullLattice} {fine coarse : Three} {gf gc : Grid3d} {ps ns : List ℕ} (s : Slotted l fine coarse gf gc ps ns) where
   pub slots-in : PlacesOf gc ps ns
   slots-in = rw (s .coarse-is) (places-of (s .paired) (s .counts) (s .places))
 
@@ -452,14 +353,17 @@ module _ {l : Medium} {fine coarse : Three} {gf gc : Grid3d} {ps ns : List ℕ} 
       → ((length nn ≡ 195) × (length ps ≡ 768)) × ((e : ℕ) → e < 768 → getD ps e 0 < 65)
   slots-low n = ((long-as (nodeNo (twoOf l fine coarse)) 195 n, slots-in .places-long), places-low (s .paired) (s .places))
 
-  -- each row is that of the prolongation
-  columns-row : (r : ℕ) → r < unknownsOf gf → columnsRow gf gc ps ns r ≡ weightColumns (twoOf l fine coarse) r
-  unfolding columnsRow
-  columns-row r h =
+  -- the columns of one row, from its position
+  pub row-columns : (r : ℕ) {p : Position} → r < unknownsOf gf → p ≡ atOf gf r → columnsIn gc ps ns p ≡ weightColumns (twoOf l fine coarse) r
+  row-columns r h e =
       let t : TwoLevels = twoOf l fine coarse in
       let b : r < unknownsOf (fineGrid t) = rw (s .fine-is) at h in
-      rw (s .fine-is, s .coarse-is, columns-product t r)
+      rw (e, s .fine-is, s .coarse-is, columns-product t r)
       (columns-at t (atOf (fineGrid t) r) (s .paired .fine-limits) (at-inside (s .paired .fine-limits) r b) (s .counts) (s .places))
+
+  pub columns-row : (r : ℕ) → r < unknownsOf gf → columnsRow gf gc ps ns r ≡ weightColumns (twoOf l fine coarse) r
+  unfolding columnsRow
+  columns-row r h = row-columns r h refl
 
   pub rows-same : rows (columnsRow gf gc ps ns) (unknownsOf gf) ≡ rows (weightColumns (twoOf l fine coarse)) (unknownsOf (fineGrid (twoOf l fine coarse)))
   rows-same =
@@ -485,52 +389,49 @@ module _ {l : Medium} {fine coarse : Three} {gf gc : Grid3d} {ps ns : List ℕ} 
 
 -- ---- how many weights there are
 
-module _ {l : Medium} {fine coarse : Three} (p : Paired l fine coarse) {ns : List ℕ} (c : ns ≡ tabulate (countEntry (twoOf l fine coarse)) 384 0) where
+module _ {l : FullLattice} {fine coarse : Three} (p : Paired l fine coarse) {ns : List ℕ} (c : ns ≡ tabulate (countEntry (twoOf l fine coarse)) 384 0) where
   counted-to : (n : ℕ) → n ≤ unknownsOf (fineGrid (twoOf l fine coarse))
       → countedTo (fineGrid (twoOf l fine coarse)) ns n ≡ startOf (weightColumns (twoOf l fine coarse)) n
-  unfolding countedTo startOf rows
-  counted-to zero h = refl
+  unfolding countedTo
+  counted-to zero h = sym (start-zero (weightColumns (twoOf l fine coarse)))
   counted-to (suc n) h =
       let t : TwoLevels = twoOf l fine coarse in
-      let before : countedTo (fineGrid t) ns n ≡ length (rows (weightColumns t) n) = counted-to n (omega arith) in
+      let before : countedTo (fineGrid t) ns n ≡ startOf (weightColumns t) n = counted-to n (omega arith) in
       let here : countIn ns (atOf (fineGrid t) n) ≡ length (weightColumns t n) =
       count-at t (atOf (fineGrid t) n) (p .fine-limits) (at-inside (p .fine-limits) n h) c ∙ sym (count-product t n) in
-      rw (before, here, length-append)
+      rw (before, here, start-suc)
 
 -- the count is where the rows end
-pub counted : {l : Medium} {fine coarse : Three} {gf gc : Grid3d} {fs cs ns : List ℕ} → Worked l fine coarse gf gc fs cs
+pub counted : {l : FullLattice} {fine coarse : Three} {gf gc : Grid3d} {fs cs ns : List ℕ} → Worked l fine coarse gf gc fs cs
     → ns ≡ tabulate (countFrom l gf gc fs cs) 384 0
     → countedTo gf ns (unknownsOf gf) ≡ startOf (weightColumns (twoOf l fine coarse)) (unknownsOf (fineGrid (twoOf l fine coarse)))
 counted {l} {fine} {coarse} w n =
     rw (at-fine w) (counted-to (w .paired) (counts-are w n) (unknownsOf (fineGrid (twoOf l fine coarse))) (omega arith))
 
-pub counts-few : {l : Medium} {fine coarse : Three} {gf gc : Grid3d} {fs cs ns : List ℕ} → Worked l fine coarse gf gc fs cs
+pub counts-few : {l : FullLattice} {fine coarse : Three} {gf gc : Grid3d} {fs cs ns : List ℕ} → Worked l fine coarse gf gc fs cs
     → ns ≡ tabulate (countFrom l gf gc fs cs) 384 0 → CountsOf ns
 counts-few {l} {fine} {coarse} w n = counts-of (twoOf l fine coarse) (counts-are w n)
 
 module _ (t : TwoLevels) (f g : ℕ → C64) where
   -- as many weights as columns
   pub weights-long : (n : ℕ) → length (rows (weightNumbers t f g) n) ≡ startOf (weightColumns t) n
-  unfolding startOf rows
-  weights-long zero = refl
-  weights-long (suc n) =
-      let before : length (rows (weightNumbers t f g) n) ≡ length (rows (weightColumns t) n) = weights-long n in
-      rw (length-append, length-append, before, numbers-count t f g n)
+  weights-long n =
+      sym (startOf-is (weightNumbers t f g) n) ∙ start-long (weightNumbers t f g) (weightColumns t) n (λ r h. numbers-count t f g r)
 
 -- ---- the weights
 
 -- numbers that have been laid can be read back
-read-room : {ys zs : List Float} {vs : List C64} {k last n : ℕ} → Laid setNumber ys k vs zs last → length vs ≡ n → n ≤ 98304 → k ≤ 2 ^ 32 → 2 * (k + n) ≤ length ys
+pub read-room : {ys zs : List Float} {vs : List C64} {k last n : ℕ} → Laid setNumber ys k vs zs last → length vs ≡ n → n ≤ 98304 → k ≤ 2 ^ 32 → 2 * (k + n) ≤ length ys
     → (k + (last - k) < 2 ^ 40) × (2 * (k + (last - k)) ≤ length zs)
 read-room h e b c d = (omega (arith, h .next), omega (arith, h .next, laid-numbers-same h))
 
-read-same : {ys zs : List Float} {vs : List C64} {k last n : ℕ} → Laid setNumber ys k vs zs last → length vs ≡ n → 2 * (k + n) ≤ length ys
+pub read-same : {ys zs : List Float} {vs : List C64} {k last n : ℕ} → Laid setNumber ys k vs zs last → length vs ≡ n → 2 * (k + n) ≤ length ys
     → allFinite (tabulate (numberAt zs) (last - k) k) ≡ allFinite vs
 read-same {ys} {zs} {vs} {k} {last} {n} h e d =
     let m : last - k ≡ length vs = omega (arith, h .next) in
     rw (h .list, m, read-back ys k vs (omega arith))
 
-module _ {l : Medium} {fine coarse : Three} {gf gc : Grid3d} {ps ns ds : List ℕ} {xs : List Float} (s : Pulled l fine coarse gf gc ps ns ds xs) where
+module _ {l : FullLattice} {fine coarse : Three} {gf gc : Grid3d} {ps ns ds : List ℕ} {xs : List Float} (s : Pulled l fine coarse gf gc ps ns ds xs) where
   -- what the numbers of a row ask
   pub span-of : {feps ceps : ℕ} {eps : List Float} → RoomFor (twoOf l fine coarse) feps ceps eps
       → SpanOf (record { fine = gf; coarse = gc; feps = feps; ceps = ceps }) ps ds ns xs eps
@@ -551,15 +452,19 @@ module _ {l : Medium} {fine coarse : Three} {gf gc : Grid3d} {ps ns ds : List �
       }
 
   module _ (f g : ℕ → C64) where
-    -- each row's numbers are those of the prolongation
-    numbers-row : (r : ℕ) → r < unknownsOf gf → numbersRow gf gc f g ps ds ns xs r ≡ weightNumbers (twoOf l fine coarse) f g r
-    unfolding numbersRow weightNumbers
-    numbers-row r h =
+    -- the numbers of one row, from its position
+    pub row-numbers : (r : ℕ) {p : Position} → r < unknownsOf gf → p ≡ atOf gf r → numbersIn gf gc f g ps ds ns xs p ≡ weightNumbers (twoOf l fine coarse) f g r
+    unfolding weightNumbers
+    row-numbers r h e =
         let t : TwoLevels = twoOf l fine coarse in
         let z : Slotted l fine coarse gf gc ps ns = s .slots in
         let b : r < unknownsOf (fineGrid t) = rw (z .fine-is) at h in
-        rw (z .fine-is, z .coarse-is, terms-product t f g r)
+        rw (e, z .fine-is, z .coarse-is, terms-product t f g r)
         (numbers-at t (z .counts) (z .places) (s .nodes) (s .pulls) (atOf (fineGrid t) r) (z .paired .fine-limits) (at-inside (z .paired .fine-limits) r b) f g)
+
+    pub numbers-row : (r : ℕ) → r < unknownsOf gf → numbersRow gf gc f g ps ds ns xs r ≡ weightNumbers (twoOf l fine coarse) f g r
+    unfolding numbersRow
+    numbers-row r h = row-numbers r h refl
 
     numbers-same : rows (numbersRow gf gc f g ps ds ns xs) (unknownsOf gf) ≡ rows (weightNumbers (twoOf l fine coarse) f g) (unknownsOf (fineGrid (twoOf l fine coarse)))
     numbers-same =
@@ -588,3 +493,21 @@ module _ {l : Medium} {fine coarse : Three} {gf gc : Grid3d} {ps ns ds : List �
         → 2 * (k + startOf (weightColumns (twoOf l fine coarse)) (unknownsOf (fineGrid (twoOf l fine coarse)))) ≤ length ys
         → allFinite (tabulate (numberAt zs) (last - k) k) ≡ allFinite (rows (weightNumbers (twoOf l fine coarse) f g) (unknownsOf (fineGrid (twoOf l fine coarse))))
     weights-finite h c = read-same (laid-weights h) (weights-long (twoOf l fine coarse) f g (unknownsOf (fineGrid (twoOf l fine coarse)))) c
+
+-- ---- one row between levels L and L + 1 of a lattice
+
+module _ (l : FullLattice) (L : ℕ) (limits : Limits (l .grid)) {ps ns ds : List ℕ} {xs : List Float} (n : ns ≡ tabulate (countEntry (twoAt l L)) 384 0)
+    (s : ps ≡ tabulate (placeEntry (twoAt l L)) 768 0) (o : ds ≡ tabulate (nodeEntry (twoAt l L)) 768 0) (w : Numbers (pullEntry (twoAt l L)) 768 xs) where
+  level-pulled : Pulled l (threeAt l L) (threeAt l (suc L)) (fineGrid (twoAt l L)) (coarseGrid (twoAt l L)) ps ns ds xs
+  level-pulled =
+      let e : twoOf l (threeAt l L) (threeAt l (suc L)) ≡ twoAt l L = two-at l limits L in
+      record {
+        slots = record { paired = paired-at l L limits; fine-is = rw e; coarse-is = rw e; counts = rw e n; places = rw e s };
+        nodes = rw e o;
+        pulls = rw e w;
+      }
+
+  -- it is the row of the prolongation, whatever reads the permittivities
+  pub level-row : (f g : ℕ → C64) (r : ℕ) → r < unknownsOf (fineGrid (twoAt l L))
+      → numbersIn (fineGrid (twoAt l L)) (coarseGrid (twoAt l L)) f g ps ds ns xs (atOf (fineGrid (twoAt l L)) r) ≡ numbersOf (prolongationRow (twoAt l L) f g r)
+  level-row f g r h = rw (two-at l limits L, weightNumbers-is) at (row-numbers level-pulled f g r h refl)

@@ -18,73 +18,27 @@ use Rattle.lattice.specs.declared.lattice.Edges.{Edges}
 use Rattle.lattice.specs.declared.lattice.Edges.the-variants.{Pml, Bloch}
 use Rattle.lattice.specs.declared.neighbours.Arrival.{Arrival}
 use Rattle.lattice.specs.declared.neighbours.Arrival.the-variants.{To, Beyond}
-use Rattle.lattice.specs.Grid.{axis3, placeOn, atOf}
-use Rattle.lattice.specs.Lattice.{edgesOf, isWall}
+use Rattle.lattice.specs.Grid.{atOf}
+use Rattle.lattice.specs.Lattice.{FullLattice, edgesOf, isWall}
 use Rattle.lattice.specs.Line.{placeOf}
-use Rattle.lattice.specs.Neighbours.{onWall, fixedAt, pastHigh}
+use Rattle.lattice.specs.Neighbours.{fixedAt, pastHigh}
 use Rattle.lattice.specs.Stretched.{acrossMap, alongMap}
-use Rattle.lattice.specs.Terms.{Term, columnsOf}
-use Rattle.lattice.proofs.LineLaws.{before-most}
-use Rattle.lattice.proofs.TabulateLaws.{length-tabulate}
+use Rattle.numbers.specs.Terms.{Term, columnsOf}
+use Rattle.numbers.proofs.ElementLaws.{before-most}
+use Rattle.numbers.proofs.TabulateLaws.{length-tabulate}
 use Rattle.weights.specs.declared.interpolate.Rule.{Rule}
 use Rattle.weights.specs.declared.interpolate.Rule.the-variants.{Coincides, Nearest, Between, Dropped}
 use Rattle.weights.specs.TwoLevels.{TwoLevels, coarseLine, fineLine, coarseCells, fineGrid, coarseGrid, fineLattice, coarseLattice, onGrid}
-use Rattle.weights.specs.Interpolate.{
-  valueAt,
-  valuePlaces,
-  upTo,
-  meets,
-  outside,
-  ruleBy,
-  ruleOf,
-  pastFirst,
-  lowSide,
-  highSide,
-  sidePlaces,
-  rulePlaces,
-  takenPlaces,
-  sideTerms,
-  twoSides,
-  ruleTerms,
-  ratioAt,
-  interpolated,
-}
-use Rattle.weights.specs.Prolongation.{
-  axisPlaces,
-  axisTerms,
-  isAlong,
-  edgeAt,
-  columnAt,
-  nestZ,
-  nestY,
-  nest,
-  weightColumns,
-  termAt,
-  termsZ,
-  termsY,
-  termsX,
-  prolongationRow,
-  weightNumbers,
-}
-use Rattle.weights.specs.Transfer.{startOf}
-use Rattle.weights.proofs.EachLaws.{sieved, Sifted, product-sieved, columns-append, columns-each, length-columns, length-numbers, each-count, All, none, more, all-append, all-at}
-use Rattle.weights.proofs.ListLaws.{rows-most}
-use Rattle.weights.specs.Product.{
-  walled,
-  keptPlaces,
-  keptTerms,
-  freePlaces,
-  freeTerms,
-  columnIn,
-  productZ,
-  productY,
-  productColumns,
-  termOf,
-  productTermsZ,
-  productTermsY,
-  productTerms,
-  weightCount,
-}
+use Rattle.weights.specs.Interpolate.{valueAt, valuePlaces, upTo, meets, outside, ruleBy, ruleOf, pastFirst, lowSide, highSide, sidePlaces, rulePlaces, takenPlaces, sideTerms, twoSides, ruleTerms, ratioAt, interpolated}
+use Rattle.weights.specs.Prolongation.{axisPlaces, axisTerms, isAlong, edgeAt, columnAt, nestZ, nestY, nest, weightColumns, termAt, termsZ, termsY, termsX, prolongationRow, weightNumbers}
+use Rattle.numbers.specs.Lists.{startOf}
+use Rattle.numbers.proofs.EachLaws.{sieved, Sifted, product-sieved, columns-append, columns-each, length-columns, length-numbers, each-count, All, none, more, all-append, all-at}
+use Rattle.numbers.proofs.ListLaws.{rows-most}
+use Rattle.numbers.proofs.Equations.{columnsOf-nil, columnsOf-cons, startOf-is}
+use Rattle.lattice.proofs.Equations.{edgesOf-is}
+use Rattle.numbers.proofs.LoopLaws.{columns-one, sieved-nil, sieved-cons}
+use Rattle.lattice.proofs.NestLaws.{fixedOn, fixed-axes}
+use Rattle.weights.specs.Product.{walled, keptPlaces, keptTerms, freePlaces, freeTerms, columnIn, productZ, productY, productColumns, termOf, productTermsZ, productTermsY, productTerms, weightCount}
 
 -- ---- which places are fixed
 
@@ -109,30 +63,37 @@ barred-by false false m = go (eqb m 0)
 abbrev pub barredOn : TwoLevels → Position → ℕ → ℕ → Bool
 barredOn t p a m = barred (walled (t .base) a (isAlong p a)) m
 
+-- a level's axes are the lattice's
+edges-on : (l : FullLattice) (g : Grid3d) (a : ℕ) → edgesOf (onGrid l g) a ≡ edgesOf l a
+unfolding onGrid
+edges-on l g a = edgesOf-is (onGrid l g) a ∙ sym (edgesOf-is l a)
+
 pub fixed-parts : (t : TwoLevels) (g : Grid3d) (p : Position)
     → fixedAt (onGrid (t .base) g) p ≡ barredOn t p 0 (p .i) || (barredOn t p 1 (p .j) || barredOn t p 2 (p .k))
-unfolding fixedAt onWall onGrid edgesOf walled isAlong placeOn axis3
+unfolding walled isAlong
 fixed-parts t g p =
-    λ i. barred-by (eqb 0 (p .component)) (isWall (t .base .x)) (p .i) i
-    || (barred-by (eqb 1 (p .component)) (isWall (t .base .y)) (p .j) i || barred-by (eqb 2 (p .component)) (isWall (t .base .z)) (p .k) i)
+    fixed-axes (onGrid (t .base) g) p ∙ (λ i. part 0 (p .i) i || (part 1 (p .j) i || part 2 (p .k) i))
+  where
+    part : (a m : ℕ) → fixedOn (onGrid (t .base) g) (p .component) a m ≡ barredOn t p a m
+    part a m = rw (edges-on (t .base) g a) (barred-by (eqb a (p .component)) (isWall (edgesOf (t .base) a)) m)
 
 -- ---- the products
 
 sieved-places : (w : Bool) (ms : List ℕ) → keptPlaces w ms ≡ sieved (barred w) ms
-unfolding keptPlaces sieved
-sieved-places w [] = refl
-sieved-places w (m ∷ ms) = rw (sieved-places w ms)
+unfolding keptPlaces
+sieved-places w [] = sym (sieved-nil (barred w))
+sieved-places w (m ∷ ms) = rw (sieved-cons, sieved-places w ms)
 
 abbrev barredTerm : Bool → Term → Bool
 barredTerm w t = barred w (t .column)
 
 sieved-terms : (w : Bool) (ts : List Term) → keptTerms w ts ≡ sieved (barredTerm w) ts
-unfolding keptTerms sieved
-sieved-terms w [] = refl
-sieved-terms w (t ∷ ts) = rw (sieved-terms w ts)
+unfolding keptTerms
+sieved-terms w [] = sym (sieved-nil (barredTerm w))
+sieved-terms w (t ∷ ts) = rw (sieved-cons, sieved-terms w ts)
 
 module _ (t : TwoLevels) (a : ℕ) (along : Bool) (i : ℕ) where
-  free-places : Sifted (barred (walled (t .base) a along)) (barred (walled (t .base) a along) i) (axisPlaces t a along i) (freePlaces t a along i)
+  pub free-places : Sifted (barred (walled (t .base) a along)) (barred (walled (t .base) a along) i) (axisPlaces t a along i) (freePlaces t a along i)
   unfolding freePlaces
   free-places = record { is = rw (sieved-places (walled (t .base) a along) (axisPlaces t a along i)) }
 
@@ -140,7 +101,7 @@ module _ (t : TwoLevels) (a : ℕ) (along : Bool) (i : ℕ) where
   unfolding freeTerms
   free-terms = record { is = rw (sieved-terms (walled (t .base) a along) (axisTerms t a along i)) }
 
-fixed-fine : (t : TwoLevels) (p : Position) → fixedAt (fineLattice t) p ≡ barredOn t p 0 (p .i) || (barredOn t p 1 (p .j) || barredOn t p 2 (p .k))
+pub fixed-fine : (t : TwoLevels) (p : Position) → fixedAt (fineLattice t) p ≡ barredOn t p 0 (p .i) || (barredOn t p 1 (p .j) || barredOn t p 2 (p .k))
 unfolding fineLattice
 fixed-fine t p = fixed-parts t (fineGrid t) p
 
@@ -187,9 +148,8 @@ terms-product t f g r =
 -- ---- the columns of the terms
 
 columns-side : (to : Arrival) (w : C64) → columnsOf (sideTerms to w) ≡ sidePlaces to
-unfolding columnsOf
-columns-side Beyond w = refl
-columns-side (To m v) w = refl
+columns-side Beyond w = columnsOf-nil
+columns-side (To m v) w = columns-one _
 
 columns-sides : (low high : Arrival) (s : C64) → columnsOf (twoSides low high s) ≡ sidePlaces low ++ sidePlaces high
 unfolding twoSides
@@ -197,21 +157,20 @@ columns-sides low high s =
     columns-append (sideTerms low (oneMinus s)) (sideTerms high s) ∙ (λ i. columns-side low (oneMinus s) i ++ columns-side high s i)
 
 columns-rule : (e : Edges) (n : ℕ) (s : C64) (rule : Rule) → columnsOf (ruleTerms e n s rule) ≡ rulePlaces e n rule
-unfolding columnsOf
-columns-rule e n s (Coincides m) = refl
-columns-rule e n s (Nearest m) = refl
+columns-rule e n s (Coincides m) = columns-one _
+columns-rule e n s (Nearest m) = columns-one _
 columns-rule e n s (Between h) = columns-sides (lowSide e n h) (highSide e n h) s
 columns-rule e n s (Dropped h) = columns-sides (lowSide e n h) (highSide e n h) s
 
 columns-kept : (w : Bool) (ts : List Term) → columnsOf (keptTerms w ts) ≡ keptPlaces w (columnsOf ts)
-unfolding columnsOf keptTerms keptPlaces
-columns-kept w [] = refl
-columns-kept w (t ∷ ts) = go (barredTerm w t) (columns-kept w ts)
+unfolding keptTerms keptPlaces
+columns-kept w [] = rw columnsOf-nil
+columns-kept w (t ∷ ts) = rw columnsOf-cons (go (barredTerm w t) (columns-kept w ts))
   where
     go : (b : Bool) → columnsOf (keptTerms w ts) ≡ keptPlaces w (columnsOf ts)
         → columnsOf (cond b (keptTerms w ts) (t ∷ keptTerms w ts)) ≡ cond b (keptPlaces w (columnsOf ts)) (t .column ∷ keptPlaces w (columnsOf ts))
     go true e = e
-    go false e = rw e
+    go false e = rw (columnsOf-cons, e)
 
 -- the places that interpolation takes are its terms' columns
 pub interpolated-columns : (e : Edges) (x : List C64) (cs : List ℕ) (period : ℕ) (along : Bool) (p : ℕ)
@@ -227,18 +186,18 @@ module _ (t : TwoLevels) (a : ℕ) (along : Bool) (i : ℕ) where
       (getD (coarseLine t a) (length (coarseLine t a) - 1) 0) along (placeOf (fineLine t a) i along)
 
   pub free-columns : columnsOf (freeTerms t a along i) ≡ freePlaces t a along i
-  unfolding freeTerms freePlaces columnsOf
+  unfolding freeTerms freePlaces
   free-columns = go (barred (walled (t .base) a along) i)
     where
       go : (b : Bool) → columnsOf (cond b [] (keptTerms (walled (t .base) a along) (axisTerms t a along i)))
           ≡ cond b [] (keptPlaces (walled (t .base) a along) (axisPlaces t a along i))
-      go true = refl
+      go true = columnsOf-nil
       go false = columns-kept (walled (t .base) a along) (axisTerms t a along i) ∙ ap (keptPlaces (walled (t .base) a along)) axis-columns
 
 module _ (t : TwoLevels) (f g : ℕ → C64) where
   column-of : (p : Position) (x y z : Term) → columnsOf (freeTerm t f g p x y z) ≡ columnIn (coarseGrid t) p (x .column) (y .column) (z .column)
-  unfolding columnsOf termOf columnIn
-  column-of p x y z = refl
+  unfolding termOf columnIn
+  column-of p x y z = columns-one _
 
   -- each column of the products has one term
   product-columns : (p : Position) → columnsOf (productTerms t f g p) ≡ productColumns t p
@@ -326,8 +285,7 @@ weights-most t r =
     omega (arith, count-product t r, u)
 
 pub starts-few : (t : TwoLevels) (n : ℕ) → startOf (weightColumns t) n ≤ 8 * n
-unfolding startOf
-starts-few t n = rows-most (weightColumns t) 8 n (λ r h. weights-most t r)
+starts-few t n = rw startOf-is (rows-most (weightColumns t) 8 n (λ r h. weights-most t r))
 
 -- ---- where the places lie
 
@@ -337,7 +295,7 @@ low-inside e n h s b = go (eqb h 0) e
   where
     go : (z : Bool) (e : Edges) → All (λ m. m < n) (sidePlaces (cond z (pastFirst e n) (To (h - 1) oneNumber)))
     go true Pml = none
-    go true (Bloch re im) = more {x = n - 1} (omega arith) none
+    go true (Bloch p) = more {x = n - 1} (omega arith) none
     go false e = more {x = h - 1} (omega arith) none
 
 high-inside : (e : Edges) (n h : ℕ) → 1 ≤ n → All (λ m. m < n) (sidePlaces (highSide e n h))
@@ -346,7 +304,7 @@ high-inside e n h s = go (leb n h) refl e
   where
     go : (z : Bool) → leb n h ≡ z → (e : Edges) → All (λ m. m < n) (sidePlaces (cond z (pastHigh e) (To h oneNumber)))
     go true q Pml = none
-    go true q (Bloch re im) = more {x = 0} (omega arith) none
+    go true q (Bloch p) = more {x = 0} (omega arith) none
     go false q e = more (leb-false n h q) none
 
 rule-inside : (e : Edges) (wall along : Bool) (n h : ℕ) (met : Bool) → 1 ≤ n → h ≤ n → All (λ m. m < n) (rulePlaces e n (ruleBy wall along n h met))
@@ -363,6 +321,11 @@ rule-inside e wall along n h met s b = go met (wall && outside n h) along
 pub taken-inside : (e : Edges) (cs : List ℕ) (along : Bool) (p : ℕ) → 1 ≤ length cs → All (λ m. m < length cs) (takenPlaces e cs along p)
 unfolding takenPlaces ruleOf upTo
 taken-inside e cs along p s = rule-inside e (isWall e) along (length cs) (upTo cs p) (meets cs p (upTo cs p)) s (before-most (suc p) cs)
+
+-- a line has one value less than ends
+pub length-values : (es : List ℕ) (along : Bool) → length (valuePlaces es along) ≡ length es - 1
+unfolding valuePlaces
+length-values es along = length-tabulate (valueAt es along) (length es - 1) 0
 
 -- a place of the coarse line of axis a that is not fixed
 pub record FreePlace (t : TwoLevels) (a : ℕ) (along : Bool) (m : ℕ) : Type 0 where
@@ -381,9 +344,9 @@ module _ (t : TwoLevels) (a : ℕ) (along : Bool) where
       go false e v = more (record { low = p; free = e }) v
 
   pub axis-inside : (i : ℕ) → 1 ≤ coarseCells t a → All (λ m. m < coarseCells t a) (axisPlaces t a along i)
-  unfolding axisPlaces valuePlaces coarseCells
+  unfolding axisPlaces coarseCells
   axis-inside i s =
-      let n : length (valuePlaces (coarseLine t a) along) ≡ coarseCells t a = length-tabulate (valueAt (coarseLine t a) along) (length (coarseLine t a) - 1) 0 in
+      let n : length (valuePlaces (coarseLine t a) along) ≡ coarseCells t a = length-values (coarseLine t a) along in
       subst (λ k. All (λ m. m < k) (axisPlaces t a along i)) n
       (taken-inside (edgesOf (t .base) a) (valuePlaces (coarseLine t a) along) along (placeOf (fineLine t a) i along) (omega (arith, n)))
 

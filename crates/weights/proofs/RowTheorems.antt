@@ -3,40 +3,24 @@
 use Prim.Native.Nat.{ℕ, _<_}
 use mathlib.Core.Path.{_≡_, refl, ap, _∙_}
 use mathlib.Core.Bool.{Bool, true, false, cond}
-use mathlib.Core.List.{List, [], _∷_, _++_, List·Memᴰ as In, List·Memᴰ·head as head, List·Memᴰ·tail as tail, Memᴰ·append-left, Memᴰ·append-right}
+use mathlib.Core.List.{List, [], _∷_, List·Memᴰ as In, List·Memᴰ·head as head}
 use lib.ListN.{length, getD}
 use Rattle.numbers.specs.declared.C64.{C64}
-use Rattle.numbers.specs.Complex.{oneF, zeroNumber, sum, product, quotient, realOver}
+use Rattle.numbers.specs.Complex.{oneF, zeroNumber, product, quotient, realOver}
 use Rattle.lattice.specs.declared.grid.Position.{Position}
 use Rattle.lattice.specs.Grid.{indexOf, atOf, unknownsOf, Limits, Inside}
 use Rattle.lattice.specs.Neighbours.{fixedAt, isFixed}
-use Rattle.lattice.specs.Rows.{summed}
-use Rattle.lattice.specs.Terms.{Term, columnsOf, each}
-use Rattle.lattice.proofs.GridLaws.{index-below, at-index}
+use Rattle.numbers.specs.Lists.{summed}
+use Rattle.numbers.specs.Terms.{Term}
+use Rattle.lattice.proofs.GridLaws.{index-below}
 use Rattle.weights.specs.TwoLevels.{TwoLevels, gridWith, fineGrid, coarseGrid, fineLattice, coarseLattice, onGrid}
 use Rattle.weights.specs.Interpolate.{whole}
-use Rattle.weights.specs.Prolongation.{
-  axisTerms,
-  isAlong,
-  edgeAt,
-  readEdge,
-  columnAt,
-  nestZ,
-  nestY,
-  nest,
-  weightColumns,
-  weightAt,
-  termAt,
-  termsZ,
-  termsY,
-  termsX,
-  prolongationRow,
-  readAt,
-  weightReads,
-}
+use Rattle.weights.specs.Prolongation.{axisTerms, isAlong, edgeAt, readEdge, columnAt, nestZ, nestY, nest, weightColumns, weightAt, termAt, termsZ, termsY, termsX, prolongationRow, readAt, weightReads}
 use Rattle.weights.specs.Product.{columnIn, productZ, productY, productColumns}
 use Rattle.weights.specs.CoarseEps.{epsReads, inverted, harmonic, coarseEps}
-use Rattle.weights.proofs.EachLaws.{All, none, more, all-each, all-at}
+use Rattle.numbers.proofs.EachLaws.{All, none, more, all-each, all-at}
+use Rattle.numbers.proofs.LoopLaws.{summed-local, each-local}
+use Rattle.lattice.proofs.NestLaws.{fixed-index}
 use Rattle.weights.proofs.ProductLaws.{FreePlace, free-all, fixed-coarse, columns-product, axis-columns}
 
 -- ---- the columns are edges of the coarse level that are not fixed
@@ -48,12 +32,12 @@ pub record FreeEdge (t : TwoLevels) (c : ℕ) : Type 0 where
 module _ (t : TwoLevels) (h : Limits (coarseGrid t)) (p : Position) (b : p .component < 3) where
   free-edge : (i j k : ℕ) → FreePlace t 0 (isAlong p 0) i → FreePlace t 1 (isAlong p 1) j → FreePlace t 2 (isAlong p 2) k
       → FreeEdge t (indexOf (coarseGrid t) (edgeAt p i j k))
-  unfolding coarseGrid gridWith edgeAt isFixed coarseLattice onGrid
+  unfolding coarseGrid gridWith edgeAt coarseLattice onGrid
   free-edge i j k x y z =
       let e : Inside (coarseGrid t) (edgeAt p i j k) = record { c-in = b; i-in = x .low; j-in = y .low; k-in = z .low } in
       record {
         low = index-below h e;
-        free = ap (fixedAt (coarseLattice t)) (at-index h e) ∙ fixed-coarse t p i j k ∙ rw (x .free, y .free, z .free);
+        free = fixed-index (coarseLattice t) h e ∙ fixed-coarse t p i j k ∙ rw (x .free, y .free, z .free);
       }
 
   product-free : All (FreeEdge t) (productColumns t p)
@@ -80,22 +64,6 @@ abbrev pub Agree : (ℕ → C64) → (ℕ → C64) → List ℕ → Type 0
 Agree f f′ cs = (c : ℕ) → In c cs → f c ≡ f′ c
 
 module _ (f f′ g g′ : ℕ → C64) where
-  -- lists that are local term by term
-  each-local : (u v : Term → List Term) (r s : ℕ → List ℕ)
-      → ((t : Term) → Agree f f′ (r (t .column)) → Agree g g′ (s (t .column)) → u t ≡ v t)
-      → (ts : List Term) → Agree f f′ (each r (columnsOf ts)) → Agree g g′ (each s (columnsOf ts)) → each u ts ≡ each v ts
-  unfolding each columnsOf
-  each-local u v r s local [] a b = refl
-  each-local u v r s local (t ∷ ts) a b =
-      λ i. local t (λ c m. a c (Memᴰ·append-left (each r (columnsOf ts)) m)) (λ c m. b c (Memᴰ·append-left (each s (columnsOf ts)) m)) i
-      ++ each-local u v r s local ts (λ c m. a c (Memᴰ·append-right (r (t .column)) m)) (λ c m. b c (Memᴰ·append-right (s (t .column)) m)) i
-
-  -- the same where the terms' columns are known
-  terms-local : (u v : Term → List Term) (r s : ℕ → List ℕ)
-      → ((t : Term) → Agree f f′ (r (t .column)) → Agree g g′ (s (t .column)) → u t ≡ v t)
-      → (ts : List Term) {ms : List ℕ} → columnsOf ts ≡ ms → Agree f f′ (each r ms) → Agree g g′ (each s ms) → each u ts ≡ each v ts
-  terms-local u v r s local ts e a b = each-local u v r s local ts (rw e a) (rw e b)
-
   module _ (t : TwoLevels) (p : Position) where
     term-local : (i j : ℕ) (w : C64) (z : Term) → Agree f f′ (readAt t p i j (z .column)) → Agree g g′ (columnAt t p i j (z .column))
         → termAt t f g p i j w z ≡ termAt t f′ g′ p i j w z
@@ -114,20 +82,20 @@ module _ (f f′ g g′ : ℕ → C64) where
     unfolding nestZ termsZ
     termsZ-local x y =
         let w = product (x .number) (y .number) in
-        terms-local (termAt t f g p (x .column) (y .column) w) (termAt t f′ g′ p (x .column) (y .column) w)
+        each-local (λ c. f c ≡ f′ c) (λ c. g c ≡ g′ c) (termAt t f g p (x .column) (y .column) w) (termAt t f′ g′ p (x .column) (y .column) w)
         (readAt t p (x .column) (y .column)) (columnAt t p (x .column) (y .column)) (term-local (x .column) (y .column) w)
         (axisTerms t 2 (isAlong p 2) (p .k)) (axis-columns t 2 (isAlong p 2) (p .k))
 
     termsY-local : (x : Term) → Agree f f′ (nestY t p (readAt t p) (x .column)) → Agree g g′ (nestY t p (columnAt t p) (x .column)) → termsY t f g p x ≡ termsY t f′ g′ p x
     unfolding nestY termsY
     termsY-local x =
-        terms-local (termsZ t f g p x) (termsZ t f′ g′ p x) (nestZ t p (readAt t p) (x .column)) (nestZ t p (columnAt t p) (x .column)) (termsZ-local x)
+        each-local (λ c. f c ≡ f′ c) (λ c. g c ≡ g′ c) (termsZ t f g p x) (termsZ t f′ g′ p x) (nestZ t p (readAt t p) (x .column)) (nestZ t p (columnAt t p) (x .column)) (termsZ-local x)
         (axisTerms t 1 (isAlong p 1) (p .j)) (axis-columns t 1 (isAlong p 1) (p .j))
 
     termsX-local : Agree f f′ (nest t p (readAt t p)) → Agree g g′ (nest t p (columnAt t p)) → termsX t f g p ≡ termsX t f′ g′ p
     unfolding nest termsX
     termsX-local =
-        terms-local (termsY t f g p) (termsY t f′ g′ p) (nestY t p (readAt t p)) (nestY t p (columnAt t p)) termsY-local
+        each-local (λ c. f c ≡ f′ c) (λ c. g c ≡ g′ c) (termsY t f g p) (termsY t f′ g′ p) (nestY t p (readAt t p)) (nestY t p (columnAt t p)) termsY-local
         (axisTerms t 0 (isAlong p 0) (p .i)) (axis-columns t 0 (isAlong p 0) (p .i))
 
 -- f and f′ read the fine level, g and g′ the coarse one
@@ -143,10 +111,13 @@ row-local t f f′ g g′ r = go (fixedAt (fineLattice t) (atOf (fineGrid t) r))
 
 -- a sum of inverses sees only what stands at its edges
 pub inverted-local : (f f′ : ℕ → C64) (cs : List ℕ) (s : C64) → Agree f f′ cs → summed (inverted f) s cs ≡ summed (inverted f′) s cs
-unfolding summed inverted
-inverted-local f f′ [] s h = refl
-inverted-local f f′ (c ∷ cs) s h = rw (h c (head refl)) (inverted-local f f′ cs (sum s (realOver oneF (f′ c))) (λ d m. h d (tail m)))
+unfolding inverted
+inverted-local f f′ cs s h = summed-local (inverted f) (inverted f′) cs s (λ c m. ap (realOver oneF) (h c m))
+
+pub harmonic-local : (f f′ : ℕ → C64) (cs : List ℕ) → Agree f f′ cs → harmonic f cs ≡ harmonic f′ cs
+unfolding harmonic
+harmonic-local f f′ cs h = ap (realOver (whole (length cs))) (inverted-local f f′ cs zeroNumber h)
 
 pub eps-local : (t : TwoLevels) (f f′ : ℕ → C64) (r : ℕ) → ((c : ℕ) → In c (epsReads t r) → f c ≡ f′ c) → coarseEps t f r ≡ coarseEps t f′ r
-unfolding coarseEps harmonic
-eps-local t f f′ r h = ap (realOver (whole (length (epsReads t r)))) (inverted-local f f′ (epsReads t r) zeroNumber h)
+unfolding coarseEps
+eps-local t f f′ r h = harmonic-local f f′ (epsReads t r) h

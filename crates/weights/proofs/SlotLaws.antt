@@ -18,53 +18,22 @@ use Rattle.lattice.specs.declared.levels.Three.{Three}
 use Rattle.lattice.specs.declared.line.Line.{Line}
 use Rattle.lattice.specs.Grid.{nOf, Limits}
 use Rattle.lattice.specs.Line.{endsOf, placeOf, Held}
-use Rattle.lattice.specs.Lattice.{Medium, tabulate, edgesOf}
-use Rattle.lattice.specs.Terms.{Term}
+use Rattle.lattice.specs.Lattice.{FullLattice, edgesOf}
+use Rattle.numbers.specs.Lists.{tabulate, Numbers, entryAt, placesIn}
+use Rattle.numbers.specs.Terms.{Term, numbersOf}
 use Rattle.lattice.specs.Stretched.{acrossMap, alongMap}
 use Rattle.lattice.proofs.GridLaws.{axis-each, n-some, n-most}
 use Rattle.lattice.proofs.LineLaws.{length-ends, ends-at}
-use Rattle.lattice.proofs.TabulateLaws.{length-tabulate, tabulate-at, is-tabulate, tabulate-agree}
+use Rattle.numbers.proofs.TabulateLaws.{length-tabulate, tabulate-at, is-tabulate, tabulate-agree}
 use Rattle.weights.specs.TwoLevels.{TwoLevels, fineLine, coarseLine, fineCells, coarseCells, gridWith, fineGrid, coarseGrid, twoOf}
 use Rattle.weights.specs.Interpolate.{valueAt, valuePlaces, takenPlaces, interpolated}
-use Rattle.weights.specs.Transfer.{numbersOf}
 use Rattle.weights.specs.Prolongation.{axisPlaces, axisTerms}
 use Rattle.weights.specs.Product.{walled, keptPlaces, keptTerms, freePlaces, freeTerms}
-use Rattle.weights.specs.Tables.{
-  slotAxis,
-  slotAlong,
-  slotPlace,
-  slotPlaces,
-  slotTerms,
-  countEntry,
-  placeEntry,
-  nodeEntry,
-  pullEntry,
-  valueEntry,
-  linesIn,
-  nodeNo,
-  mapNo,
-  mapPoint,
-  mapIn,
-  Numbers,
-  HeldThree,
-  Paired,
-  entryAt,
-  placesIn,
-  slotWall,
-  slotBlock,
-  slotTaken,
-  slotPulled,
-  countFrom,
-  placeFrom,
-  nodeFrom,
-  pullFrom,
-  endNo,
-  ValuesOf,
-  EndsOf,
-}
-use Rattle.weights.proofs.ListLaws.{long-as, read-at}
+use Rattle.weights.specs.Tables.{slotAxis, slotAlong, slotPlace, slotPlaces, slotTerms, countEntry, placeEntry, nodeEntry, pullEntry, valueEntry, linesIn, nodeNo, mapNo, mapPoint, mapIn, HeldThree, Paired, slotWall, slotBlock, slotTaken, slotPulled, countFrom, placeFrom, nodeFrom, pullFrom, endNo, ValuesOf, EndsOf}
+use Rattle.numbers.proofs.ListLaws.{long-as, read-at}
 use Rattle.weights.proofs.ProductLaws.{free-most, free-inside}
-use Rattle.weights.proofs.TableLaws.{map-long, map-no}
+use Rattle.lattice.proofs.NestLaws.{map-long, place-below}
+use Rattle.weights.proofs.TableLaws.{map-no}
 use Rattle.weights.proofs.TwoLevelLaws.{fine-grid, coarse-grid, fine-n, coarse-n, node-at}
 
 -- ---- the lines' ends
@@ -124,23 +93,16 @@ block-value line q i h b =
 
 -- a value lies below 129
 value-low : {s : Three} → HeldThree s → (q : ℕ) → valueEntry (linesIn s) q < 129
-unfolding valueEntry placeOf
-value-low {s} h q = go (slotAlong q) (ltb (slotPlace q) (length (linesIn s (slotAxis q)) - 1)) refl
+unfolding valueEntry
+value-low {s} h q = go (ltb (slotPlace q) (length (linesIn s (slotAxis q)) - 1)) refl
   where
-    go : (along b : Bool) → ltb (slotPlace q) (length (linesIn s (slotAxis q)) - 1) ≡ b
-        → cond b
-        (cond along
-        ((getD (linesIn s (slotAxis q)) (slotPlace q) 0 + getD (linesIn s (slotAxis q)) (slotPlace q + 1) 0) / 2)
-        (getD (linesIn s (slotAxis q)) (slotPlace q) 0))
-        0
-        < 129
-    go along false e = omega arith
-    go true true e =
+    go : (b : Bool) → ltb (slotPlace q) (length (linesIn s (slotAxis q)) - 1) ≡ b → cond b (placeOf (linesIn s (slotAxis q)) (slotPlace q) (slotAlong q)) 0 < 129
+    go false e = omega arith
+    go true e =
         let k : slotPlace q < length (linesIn s (slotAxis q)) - 1 = ltb-true _ _ e in
-        omega (arith, ends-low h (slotAxis q) (slotPlace q) (omega arith), ends-low h (slotAxis q) (slotPlace q + 1) (omega arith))
-    go false true e =
-        let k : slotPlace q < length (linesIn s (slotAxis q)) - 1 = ltb-true _ _ e in
-        ends-low h (slotAxis q) (slotPlace q) (omega arith)
+        place-below (linesIn s (slotAxis q)) (slotPlace q) 129 (slotAlong q)
+        (ends-low h (slotAxis q) (slotPlace q) (omega arith))
+        (ends-low h (slotAxis q) (slotPlace q + 1) (omega arith))
 
 end-low : {s : Three} → HeldThree s → (a : ℕ) → endNo (linesIn s) a < 129
 unfolding endNo
@@ -166,14 +128,14 @@ ends-of {coarse} h e =
 
 -- ---- what the lists of a transfer are worked out from
 
-pub record Worked (l : Medium) (fine coarse : Three) (gf gc : Grid3d) (fs cs : List ℕ) : Type 0 where
+pub record Worked (l : FullLattice) (fine coarse : Three) (gf gc : Grid3d) (fs cs : List ℕ) : Type 0 where
   pub paired : Paired l fine coarse
   pub fine-is : gf ≡ gridWith (l .grid) (fine .x .cells) (fine .y .cells) (fine .z .cells)
   pub coarse-is : gc ≡ gridWith (l .grid) (coarse .x .cells) (coarse .y .cells) (coarse .z .cells)
   pub values-fine : fs ≡ tabulate (valueEntry (linesIn fine)) 384 0
   pub values-coarse : cs ≡ tabulate (valueEntry (linesIn coarse)) 384 0
 
-module _ {l : Medium} {fine coarse : Three} {gf gc : Grid3d} {fs cs : List ℕ} (w : Worked l fine coarse gf gc fs cs) where
+module _ {l : FullLattice} {fine coarse : Three} {gf gc : Grid3d} {fs cs : List ℕ} (w : Worked l fine coarse gf gc fs cs) where
   pub at-fine : gf ≡ fineGrid (twoOf l fine coarse)
   at-fine = w .fine-is ∙ fine-grid l fine coarse (w .paired .fine-held)
 
@@ -190,7 +152,7 @@ module _ {l : Medium} {fine coarse : Three} {gf gc : Grid3d} {fs cs : List ℕ} 
   values-are = values-of (w .paired .fine-held) (w .paired .coarse-held) (w .values-fine) (w .values-coarse)
 
 -- the cells of two levels
-module _ {l : Medium} {fine coarse : Three} (p : Paired l fine coarse) (a : ℕ) where
+module _ {l : FullLattice} {fine coarse : Three} (p : Paired l fine coarse) (a : ℕ) where
   pub coarse-most : coarseCells (twoOf l fine coarse) a ≤ 64
   coarse-most = rw coarse-n at (n-most (p .coarse-limits) a)
 
@@ -223,7 +185,7 @@ pub axis-below : (q : ℕ) → q < 384 → slotAxis q < 3
 unfolding slotAxis
 axis-below q h = omega arith
 
-module _ {l : Medium} {fine coarse : Three} (p : Paired l fine coarse) where
+module _ {l : FullLattice} {fine coarse : Three} (p : Paired l fine coarse) where
   -- an entry's place is low
   pub entry-low : (e : ℕ) → placeEntry (twoOf l fine coarse) e < 65
   unfolding placeEntry
@@ -259,12 +221,12 @@ module _ {l : Medium} {fine coarse : Three} (p : Paired l fine coarse) where
 -- ---- the maps
 
 -- the map of a slot's axis and role
-map-at : (l : Medium) (q p : ℕ) → p < 129
+map-at : (l : FullLattice) (q p : ℕ) → p < 129
     → mapNo l (129 * (q / 64) + p) ≡ getD (cond (slotAlong q) (alongMap l (slotAxis q)) (acrossMap l (slotAxis q))) p noNumber
 unfolding slotAlong slotAxis
 map-at l q p h = let k : q / 64 / 2 ≡ q / 128 = omega arith in rw k at (map-no l (q / 64) p h)
 
-pub map-is : (l : Medium) {xs : List Float} → Numbers (mapNo l) 774 xs → (q : ℕ) → q < 384
+pub map-is : (l : FullLattice) {xs : List Float} → Numbers (mapNo l) 774 xs → (q : ℕ) → q < 384
     → mapIn xs (q / 64) ≡ cond (slotAlong q) (alongMap l (slotAxis q)) (acrossMap l (slotAxis q))
 unfolding mapIn mapPoint
 map-is l {xs} m q h =
@@ -276,7 +238,7 @@ map-is l {xs} m q h =
 
 -- ---- what is worked out is what the slots hold
 
-module _ {l : Medium} {fine coarse : Three} {gf gc : Grid3d} {fs cs : List ℕ} (w : Worked l fine coarse gf gc fs cs) where
+module _ {l : FullLattice} {fine coarse : Three} {gf gc : Grid3d} {fs cs : List ℕ} (w : Worked l fine coarse gf gc fs cs) where
   pub cells-fine : (a : ℕ) → nOf gf a ≡ fineCells (twoOf l fine coarse) a
   cells-fine a = rw (at-fine w) (fine-n (twoOf l fine coarse) a)
 

@@ -1,115 +1,51 @@
 -- Laws of the lists of slots: how they are filled, and what a slot or an entry takes, by cases.
 -- Assumes nothing.
 use Prim.Native.Nat.{ℕ, zero, suc, _+_, _-_, _*_, _/_, _%_, _<_, _≤_}
-use native.Mathlib.Numerals.{add-one}
 use native.Mathlib.Omega.{arith}
 use mathlib.Core.Path.{_≡_, refl, sym, ap, _∙_}
 use mathlib.Core.Bool.{Bool, true, false, not, _&&_, cond}
 use mathlib.Core.List.{List, [], _∷_, _++_}
 use borrow.Author.Tests.{ltb-true, ltb-false, lt-ltb, le-ltb, not-true, not-false}
-use borrow.Author.Count.{below-more}
 use lib.Dec.{eqb, ltb}
-use lib.ListN.{length, getD, drop, replicate, length-replicate, length-append, drop-of-length-le}
-use lib.Seq.{drop-cons}
+use lib.ListN.{length, getD, replicate, length-replicate, length-append}
 use lib.Ieee.{Float}
 use Rattle.numbers.specs.declared.C64.{C64}
 use Rattle.numbers.specs.Complex.{zeroNumber, noNumber}
-use Rattle.numbers.specs.Places.{places, numberAt, setNumber}
-use Rattle.numbers.proofs.Laws.{length-setNumber, number-same, number-other}
 use Rattle.lattice.specs.declared.grid.Grid3d.{Grid3d}
 use Rattle.lattice.specs.declared.lattice.Edges.{Edges}
 use Rattle.lattice.specs.declared.levels.Three.{Three}
 use Rattle.lattice.specs.declared.line.Line.{Line}
 use Rattle.lattice.specs.Grid.{axis3, nOf, Limits}
-use Rattle.lattice.specs.Lattice.{Medium, tabulate, edgesOf, isWall}
+use Rattle.lattice.specs.Lattice.{FullLattice, edgesOf, isWall}
+use Rattle.numbers.specs.Lists.{tabulate, laid, laidNumbers, placesIn}
 use Rattle.lattice.specs.Line.{endsOf, placeOf, nodesOf, Held}
-use Rattle.lattice.specs.Stretched.{mapList, acrossMap, alongMap}
-use Rattle.lattice.specs.Terms.{Term}
+use Rattle.lattice.specs.Stretched.{acrossMap, alongMap}
+use Rattle.numbers.specs.Terms.{Term, numbersOf}
 use Rattle.lattice.proofs.GridLaws.{n-some, n-most}
 use Rattle.lattice.proofs.LineLaws.{length-ends, ends-at, length-nodes}
-use Rattle.lattice.proofs.TabulateLaws.{length-tabulate, is-tabulate}
+use Rattle.numbers.proofs.TabulateLaws.{is-tabulate}
 use Rattle.weights.specs.declared.interpolate.Spots.{Spots}
 use Rattle.weights.specs.declared.interpolate.Pulls.{Pulls}
-use Rattle.weights.specs.Lists.{laidBy, laid, laidNumbers}
 use Rattle.weights.specs.TwoLevels.{TwoLevels, fineLine, coarseLine, nodeOn}
 use Rattle.weights.specs.Interpolate.{takenPlaces, interpolated}
 use Rattle.weights.specs.Product.{walled, keptPlaces, keptTerms}
-use Rattle.weights.specs.Transfer.{numbersOf}
-use Rattle.weights.specs.Tables.{slotAxis, slotAlong, slotPlace, slotWall, slotBlock, slotTaken, slotPulled, linesIn, valueEntry, endNo, nodeNo, mapNo, mapIn, placesIn, spotsOf, pullsOf, countFrom, placeFrom, pullFrom, Numbers, HeldThree, ValuesOf}
-use Rattle.weights.proofs.ListLaws.{laid-length, laid-before, laid-at, laid-numbers-length, laid-numbers-before, laid-numbers-at}
+use Rattle.weights.specs.Tables.{slotAxis, slotAlong, slotPlace, slotWall, slotBlock, slotTaken, slotPulled, linesIn, valueEntry, endNo, nodeNo, mapNo, mapIn, spotsOf, pullsOf, countFrom, placeFrom, pullFrom, HeldThree, ValuesOf}
+use Rattle.numbers.proofs.ListLaws.{laid-length, laid-before, laid-at}
 use Rattle.weights.proofs.ProductLaws.{taken-most, kept-most}
+use Rattle.numbers.proofs.Equations.{tabulate-zero, tabulate-suc}
+use Rattle.numbers.proofs.EachLaws.{numbers-at}
+use Rattle.weights.proofs.Equations.{linesIn-0, linesIn-1, linesIn-2}
+use Rattle.numbers.proofs.RowLoops.{NumbersTo, numbers-laid}
+use Rattle.lattice.proofs.NestLaws.{map-long}
 use Rattle.weights.proofs.TwoLevelLaws.{line-cells, node-no}
-
--- ---- a loop that lays one value at each turn, m of them done: the others, laid from there on, come to the whole
-
-pub record Spread {L A : Type 0} (put : L → ℕ → A → L) (xs : L) (k : ℕ) (vs : List A) (m : ℕ) (ys : L) : Type 0 where
-  pub same : laidBy put ys (k + m) (drop m vs) ≡ laidBy put xs k vs
-
-module _ {L A : Type 0} {put : L → ℕ → A → L} {xs : L} {k : ℕ} {vs : List A} where
-  pub spread-start : Spread put xs k vs 0 xs
-  spread-start = let e : k + 0 ≡ k = omega arith in record { same = ap (λ (i : ℕ). laidBy put xs i vs) e }
-
-  pub spread-turn : {m : ℕ} {ys : L} {v : A} (d : A) → Spread put xs k vs m ys → m < length vs → v ≡ getD vs m d → Spread put xs k vs (m + 1) (put ys (k + m) v)
-  unfolding laidBy
-  spread-turn {m} {ys} {v} d p h q =
-      let e : k + (m + 1) ≡ suc (k + m) = omega arith in
-      record { same = rw (e, add-one m, q) (sym (ap (laidBy put ys (k + m)) (drop-cons vs m d h)) ∙ p .same) }
-
-  pub spread-end : {m : ℕ} {ys : L} → Spread put xs k vs m ys → length vs ≤ m → ys ≡ laidBy put xs k vs
-  unfolding laidBy
-  spread-end {m} {ys} p h = sym (ap (laidBy put ys (k + m)) (drop-of-length-le vs {i = m} h)) ∙ p .same
-
--- ---- a list whose first k numbers of n are f 0, f 1, ..
-
-pub record NumbersTo (f : ℕ → C64) (n k : ℕ) (xs : List Float) : Type 0 where
-  pub long : length xs ≡ 2 * n
-  pub done : (i : ℕ) → i < k → numberAt xs i ≡ f i
-
-module _ {f : ℕ → C64} {n : ℕ} where
-  pub numbers-start : {xs : List Float} → length xs ≡ 2 * n → NumbersTo f n 0 xs
-  numbers-start h = record { long = h; done = λ i b. absurd (omega arith) }
-
-  -- one number more
-  pub numbers-turn : {k : ℕ} {xs : List Float} {v : C64} → NumbersTo f n k xs → k < n → v ≡ f k → NumbersTo f n (k + 1) (setNumber xs k v)
-  unfolding places
-  numbers-turn {k} {xs} {v} p b e =
-      record {
-        long = length-setNumber xs k v ∙ p .long;
-        done = below-more (λ (i : ℕ). numberAt (setNumber xs k v) i ≡ f i) k
-            (λ i h. number-other xs k i v (omega arith) ∙ p .done i h)
-            (number-same xs k v (omega (arith, p .long)) ∙ e);
-      }
-
-  -- a list of numbers more
-  pub numbers-laid : {k : ℕ} {xs : List Float} (vs : List C64) → NumbersTo f n k xs → k + length vs ≤ n
-      → ((j : ℕ) → j < length vs → getD vs j noNumber ≡ f (k + j)) → NumbersTo f n (k + length vs) (laidNumbers xs k vs)
-  numbers-laid {k} {xs} vs p b e =
-      record { long = laid-numbers-length xs k vs ∙ p .long; done = λ i h. go i h (ltb i k) refl }
-    where
-      go : (i : ℕ) → i < k + length vs → (s : Bool) → ltb i k ≡ s → numberAt (laidNumbers xs k vs) i ≡ f i
-      go i h true q = let l : i < k = ltb-true i k q in laid-numbers-before xs k vs i l ∙ p .done i l
-      go i h false q =
-          let l : i - k < length vs = omega (arith, ltb-false i k q) in
-          let w : k + (i - k) ≡ i = omega (arith, ltb-false i k q) in
-          let u : numberAt (laidNumbers xs k vs) (k + (i - k)) ≡ f (k + (i - k)) =
-          laid-numbers-at xs k vs (i - k) noNumber l (omega (arith, p .long)) ∙ e (i - k) l in
-          rw w at u
-
-  pub numbers-whole : {xs : List Float} → NumbersTo f n n xs → Numbers f n xs
-  numbers-whole p = record { long = p .long; each-is = p .done }
 
 -- ---- the list of maps, block by block
 
 -- the map of block b
-abbrev pub mapOf : Medium → ℕ → List C64
+abbrev pub mapOf : FullLattice → ℕ → List C64
 mapOf l b = cond (eqb (b % 2) 1) (alongMap l (b / 2)) (acrossMap l (b / 2))
 
-pub map-long : (l : Medium) (a : ℕ) (along : Bool) → length (cond along (alongMap l a) (acrossMap l a)) ≡ 129
-unfolding acrossMap alongMap mapList
-map-long l a true = length-tabulate _ 129 0
-map-long l a false = length-tabulate _ 129 0
-
-pub map-no : (l : Medium) (b p : ℕ) → p < 129 → mapNo l (129 * b + p) ≡ getD (mapOf l b) p noNumber
+pub map-no : (l : FullLattice) (b p : ℕ) → p < 129 → mapNo l (129 * b + p) ≡ getD (mapOf l b) p noNumber
 unfolding mapNo
 map-no l b p h =
     let e : (129 * b + p) / 129 ≡ b = omega arith in
@@ -117,7 +53,7 @@ map-no l b p h =
     rw (e, d)
 
 -- a map more
-pub maps-turn : (l : Medium) (b : ℕ) {xs ys : List Float} {vs : List C64} → b < 6 → vs ≡ mapOf l b → NumbersTo (mapNo l) 774 (129 * b) xs
+pub maps-turn : (l : FullLattice) (b : ℕ) {xs ys : List Float} {vs : List C64} → b < 6 → vs ≡ mapOf l b → NumbersTo (mapNo l) 774 (129 * b) xs
     → ys ≡ laidNumbers xs (129 * b) vs → NumbersTo (mapNo l) 774 (129 * (b + 1)) ys
 maps-turn l b {xs} {ys} {vs} h e p q =
     let w : length vs ≡ 129 = ap length e ∙ map-long l (b / 2) (eqb (b % 2) 1) in
@@ -188,8 +124,10 @@ module _ (l : Line) (p : Held l) where
 pub last-ends : (s : Three) → HeldThree s
     → getD (s .x .ends) (s .x .cells) 0 ∷ (getD (s .y .ends) (s .y .cells) 0 ∷ (getD (s .z .ends) (s .z .cells) 0 ∷ []))
     ≡ tabulate (endNo (linesIn s)) 3 0
-unfolding tabulate endNo linesIn axis3
-last-ends s p = λ i. last-end (s .x) (p .x-held) i ∷ (last-end (s .y) (p .y-held) i ∷ (last-end (s .z) (p .z-held) i ∷ []))
+unfolding endNo
+last-ends s p =
+    rw (tabulate-suc, tabulate-suc, tabulate-suc, tabulate-zero, linesIn-0, linesIn-1, linesIn-2)
+    (λ i. last-end (s .x) (p .x-held) i ∷ (last-end (s .y) (p .y-held) i ∷ (last-end (s .z) (p .z-held) i ∷ [])))
 
 -- the value of a slot, on the line of its axis
 pub value-is : (s : Three) (q : ℕ) {es : List ℕ} {along : Bool} → es ≡ axis3 (q / 128) (endsOf (s .x)) (endsOf (s .y)) (endsOf (s .z)) → along ≡ slotAlong q
@@ -199,7 +137,7 @@ value-is s q e f = λ i. cond (ltb (q % 64) (length (e i) - 1)) (placeOf (e i) (
 
 -- ---- what a slot takes, by cases
 
-module _ (l : Medium) (gf gc : Grid3d) (fs cs : List ℕ) (q : ℕ) where
+module _ (l : FullLattice) (gf gc : Grid3d) (fs cs : List ℕ) (q : ℕ) where
   -- past the fine line's values
   pub taken-past : nOf gf (q / 128) ≤ q % 64 → [] ≡ slotTaken l gf gc fs cs q
   unfolding slotTaken slotPlace slotAxis
@@ -251,7 +189,7 @@ free-inside false i h = refl
 
 -- ---- a slot takes at most two
 
-pub taken-few : (l : Medium) (gf gc : Grid3d) (fs cs : List ℕ) (q : ℕ) → length (slotTaken l gf gc fs cs q) ≤ 2
+pub taken-few : (l : FullLattice) (gf gc : Grid3d) (fs cs : List ℕ) (q : ℕ) → length (slotTaken l gf gc fs cs q) ≤ 2
 unfolding slotTaken
 taken-few l gf gc fs cs q = go (ltb (slotPlace q) (nOf gf (slotAxis q))) (slotWall l q && eqb (slotPlace q) 0)
   where
@@ -288,17 +226,23 @@ spots-at (a ∷ []) (suc zero) h = refl
 spots-at (a ∷ (b ∷ ms)) (suc zero) h = refl
 spots-at ms (suc (suc d)) h = absurd (omega arith)
 
-pulls-at : (ts : List Term) (d : ℕ) → d < 2 → getD (pullsOf ts .low ∷ (pullsOf ts .high ∷ [])) d zeroNumber ≡ getD (numbersOf ts) d zeroNumber
-unfolding numbersOf
-pulls-at [] zero h = refl
-pulls-at (a ∷ []) zero h = refl
-pulls-at (a ∷ (b ∷ ts)) zero h = refl
-pulls-at [] (suc zero) h = refl
-pulls-at (a ∷ []) (suc zero) h = refl
-pulls-at (a ∷ (b ∷ ts)) (suc zero) h = refl
-pulls-at ts (suc (suc d)) h = absurd (omega arith)
+-- a read past the end gives this
+abbrev pub noTerm : Term
+noTerm = record { column = 0; number = zeroNumber }
 
-module _ (l : Medium) (gf gc : Grid3d) (fs cs : List ℕ) where
+pulls-at : (ts : List Term) (d : ℕ) → d < 2 → getD (pullsOf ts .low ∷ (pullsOf ts .high ∷ [])) d zeroNumber ≡ getD (numbersOf ts) d zeroNumber
+pulls-at ts d h = go ts d h ∙ sym (numbers-at ts d noTerm)
+  where
+    go : (ts : List Term) (d : ℕ) → d < 2 → getD (pullsOf ts .low ∷ (pullsOf ts .high ∷ [])) d zeroNumber ≡ getD ts d noTerm .number
+    go [] zero h = refl
+    go (a ∷ []) zero h = refl
+    go (a ∷ (b ∷ ts)) zero h = refl
+    go [] (suc zero) h = refl
+    go (a ∷ []) (suc zero) h = refl
+    go (a ∷ (b ∷ ts)) (suc zero) h = refl
+    go ts (suc (suc d)) h = absurd (omega arith)
+
+module _ (l : FullLattice) (gf gc : Grid3d) (fs cs : List ℕ) where
   pub count-is : (q : ℕ) {s : Spots} → s ≡ spotsOf (slotTaken l gf gc fs cs q) → s .count ≡ countFrom l gf gc fs cs q
   unfolding countFrom
   count-is q {s} e = ap (λ (u : Spots). u .count) e ∙ spots-count (slotTaken l gf gc fs cs q) (taken-few l gf gc fs cs q)
@@ -317,7 +261,7 @@ module _ (l : Medium) (gf gc : Grid3d) (fs cs : List ℕ) where
 
 -- ---- a slot's wall, by the tests of the code
 
-module _ (l : Medium) (q : ℕ) {a : Bool} (p : a ≡ slotAlong q) where
+module _ (l : FullLattice) (q : ℕ) {a : Bool} (p : a ≡ slotAlong q) where
   pub wall-across : {e : Edges} {w : Bool} → not a ≡ true → e ≡ edgesOf l (q / 128) → w ≡ isWall e → w ≡ slotWall l q
   unfolding slotWall walled slotAxis
   wall-across h e f = rw (← p, not-true a h) (f ∙ ap isWall e)

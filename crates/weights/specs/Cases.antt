@@ -7,11 +7,11 @@ use mathlib.Core.List.{List, [], _∷_, _++_}
 use lib.Dec.{eqb}
 use lib.Ieee.{Float}
 use Rattle.numbers.specs.declared.C64.{C64}
-use Rattle.numbers.specs.Complex.{zeroF, oneF}
+use Rattle.numbers.specs.Complex.{zeroF, oneNumber}
 use Rattle.lattice.specs.declared.lattice.Edges.{Edges}
 use Rattle.lattice.specs.declared.lattice.Edges.the-variants.{Pml, Bloch}
 use Rattle.lattice.specs.Stretched.{mapList}
-use Rattle.lattice.specs.Terms.{Term, columnsOf}
+use Rattle.numbers.specs.Terms.{Term, columnsOf}
 use Rattle.lattice.specs.Cases as Below
 use Rattle.lattice.specs.Cases.{Outcome, Case, over, everywhere}
 use Rattle.weights.specs.Interpolate.{valuePlaces, interpolated}
@@ -48,7 +48,7 @@ meanOf cs doubles =
 unfoldable pub table : List Case
 table =
     Below.table
-    ++ (taking (Bloch oneF zeroF) true 1 (1 ∷ 0 ∷ []) (over 1 4 ∷ zeroF ∷ over 3 4 ∷ zeroF ∷ [])
+    ++ (taking (Bloch oneNumber) true 1 (1 ∷ 0 ∷ []) (over 1 4 ∷ zeroF ∷ over 3 4 ∷ zeroF ∷ [])
     ∷ taking Pml true 1 (0 ∷ []) (over 1 1 ∷ zeroF ∷ [])
     ∷ taking Pml false 6 (1 ∷ []) (over 1 2 ∷ zeroF ∷ [])
     ∷ meanOf (0 ∷ 1 ∷ []) (over 8 3 ∷ zeroF ∷ [])

@@ -1,5 +1,5 @@
--- The permittivity of a coarse edge (docs/SPECIFICATION.md, 8): along its component the harmonic mean of the fine ones in its cell, across it
--- the fine ones at the same nodes. Read through a reader, edge to number.
+-- The permittivity of a coarse edge (docs/SPECIFICATION.md, 8): the harmonic mean over the fine edges of its cell that lie
+-- on its own line. Read through a reader, edge to number.
 -- Assumes nothing.
 use Prim.Native.Nat.{ℕ, _+_, _-_}
 use mathlib.Core.List.{List}
@@ -9,8 +9,7 @@ use Rattle.numbers.specs.Complex.{oneF, zeroNumber, realOver}
 use Rattle.lattice.specs.declared.grid.Grid3d.{Grid3d}
 use Rattle.lattice.specs.declared.grid.Position.{Position}
 use Rattle.lattice.specs.Grid.{placeOn, movedTo, indexOf, atOf}
-use Rattle.lattice.specs.Lattice.{tabulate}
-use Rattle.lattice.specs.Rows.{summed}
+use Rattle.numbers.specs.Lists.{tabulate, summed}
 use Rattle.weights.specs.TwoLevels.{TwoLevels, nodeOn, fineGrid, coarseGrid}
 use Rattle.weights.specs.Interpolate.{whole}
 

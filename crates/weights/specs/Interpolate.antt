@@ -14,10 +14,11 @@ use Rattle.lattice.specs.declared.lattice.Edges.{Edges}
 use Rattle.lattice.specs.declared.lattice.Edges.the-variants.{Pml, Bloch}
 use Rattle.lattice.specs.declared.neighbours.Arrival.{Arrival}
 use Rattle.lattice.specs.declared.neighbours.Arrival.the-variants.{To, Beyond}
-use Rattle.lattice.specs.Lattice.{tabulate, isWall}
-use Rattle.lattice.specs.Line.{placeOf, before}
+use Rattle.numbers.specs.Lists.{tabulate, before}
+use Rattle.lattice.specs.Lattice.{isWall}
+use Rattle.lattice.specs.Line.{placeOf}
 use Rattle.lattice.specs.Neighbours.{pastHigh}
-use Rattle.lattice.specs.Terms.{Term}
+use Rattle.numbers.specs.Terms.{Term}
 use Rattle.weights.specs.declared.interpolate.Rule.{Rule}
 use Rattle.weights.specs.declared.interpolate.Rule.the-variants.{Coincides, Nearest, Between, Dropped}
 
@@ -54,7 +55,7 @@ ruleOf e cs along p = ruleBy (isWall e) along (length cs) (upTo cs p) (meets cs 
 -- before the first of n values: nothing beyond a wall; on a Bloch axis the last, with the inverse of p
 abbrev pub pastFirst : Edges → ℕ → Arrival
 pastFirst Pml n = Beyond
-pastFirst (Bloch re im) n = To (n - 1) (inverse (record { re = re; im = im }))
+pastFirst (Bloch p) n = To (n - 1) (inverse p)
 
 -- the two neighbours where h values lie before the place, each with its phase: (1, 0) inside, p past the last value
 unfoldable pub lowSide : Edges → ℕ → ℕ → Arrival
@@ -86,7 +87,7 @@ whole n = ofInt binary64 (pos n)
 -- the coordinate at a place: the map there; on a Bloch axis the place itself
 abbrev pub coordinate : Edges → List C64 → ℕ → C64
 coordinate Pml x p = getD x p noNumber
-coordinate (Bloch re im) x p = record { re = whole p; im = zeroF }
+coordinate (Bloch phase) x p = record { re = whole p; im = zeroF }
 
 -- that of the low neighbour: before the first value, the last one's place less the period
 unfoldable pub lowCoordinate : Edges → List C64 → List ℕ → ℕ → ℕ → C64

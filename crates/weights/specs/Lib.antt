@@ -1,8 +1,5 @@
-pub mod Lists
 pub mod TwoLevels
 pub mod Interpolate
-pub mod Transfer
-pub mod Turning
 pub mod Prolongation
 pub mod CoarseEps
 pub mod Product

@@ -10,14 +10,15 @@ use Rattle.numbers.specs.declared.C64.{C64}
 use Rattle.numbers.specs.Complex.{product}
 use Rattle.lattice.specs.declared.grid.Grid3d.{Grid3d}
 use Rattle.lattice.specs.declared.grid.Position.{Position}
-use Rattle.lattice.specs.Grid.{indexOf}
-use Rattle.lattice.specs.Lattice.{Medium, edgesOf, isWall}
-use Rattle.lattice.specs.Terms.{Term, each}
-use Rattle.weights.specs.TwoLevels.{TwoLevels, coarseGrid}
+use Rattle.lattice.specs.Grid.{indexOf, atOf}
+use Rattle.lattice.specs.Lattice.{FullLattice, edgesOf, isWall}
+use Rattle.numbers.specs.Terms.{Term}
+use Rattle.numbers.specs.Lists.{each, sumTo}
+use Rattle.weights.specs.TwoLevels.{TwoLevels, fineCells, fineGrid, coarseGrid}
 use Rattle.weights.specs.Prolongation.{axisPlaces, axisTerms, isAlong, edgeAt, weightAt}
 
 -- on a wall axis a component across it is fixed at place 0
-unfoldable pub walled : Medium → ℕ → Bool → Bool
+unfoldable pub walled : FullLattice → ℕ → Bool → Bool
 walled l a along = not along && isWall (edgesOf l a)
 
 -- some places, and some terms, without place 0 where it is fixed
@@ -72,3 +73,20 @@ weightCount t p =
     length (freePlaces t 0 (isAlong p 0) (p .i))
     * length (freePlaces t 1 (isAlong p 1) (p .j))
     * length (freePlaces t 2 (isAlong p 2) (p .k))
+
+-- how many row r has
+unfoldable pub rowWeights : TwoLevels → ℕ → ℕ
+rowWeights t r = weightCount t (atOf (fineGrid t) r)
+
+-- how many values of axis a the places of component c take in all, and how many weights the rows of component c, and all rows, have
+unfoldable pub axisTaken : TwoLevels → ℕ → ℕ → ℕ → ℕ
+axisTaken t c a i = length (freePlaces t a (eqb a c) i)
+
+unfoldable pub axisWeights : TwoLevels → ℕ → ℕ → ℕ
+axisWeights t c a = sumTo (axisTaken t c a) (fineCells t a)
+
+unfoldable pub componentWeights : TwoLevels → ℕ → ℕ
+componentWeights t c = axisWeights t c 0 * axisWeights t c 1 * axisWeights t c 2
+
+unfoldable pub transferWeights : TwoLevels → ℕ
+transferWeights t = sumTo (componentWeights t) 3

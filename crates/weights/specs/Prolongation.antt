@@ -15,9 +15,9 @@ use Rattle.lattice.specs.Lattice.{edgesOf}
 use Rattle.lattice.specs.Line.{placeOf}
 use Rattle.lattice.specs.Neighbours.{fixedAt}
 use Rattle.lattice.specs.Stretched.{acrossMap, alongMap}
-use Rattle.lattice.specs.Terms.{Term, each}
+use Rattle.numbers.specs.Terms.{Term, numbersOf}
+use Rattle.numbers.specs.Lists.{each}
 use Rattle.weights.specs.TwoLevels.{TwoLevels, fineLine, coarseLine, nodeOn, fineGrid, coarseGrid, fineLattice, coarseLattice}
-use Rattle.weights.specs.Transfer.{numbersOf}
 use Rattle.weights.specs.Interpolate.{valuePlaces, takenPlaces, interpolated}
 
 -- the coarse values that place i of axis a takes, in the role of a component along that axis or across it

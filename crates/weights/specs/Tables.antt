@@ -15,20 +15,34 @@ use Rattle.lattice.specs.declared.grid.Grid3d.{Grid3d}
 use Rattle.lattice.specs.declared.grid.Position.{Position}
 use Rattle.lattice.specs.declared.levels.Three.{Three}
 use Rattle.lattice.specs.Grid.{axis3, nOf, indexOf, atOf, unknownsOf, placeOn, movedTo, Limits, Inside}
-use Rattle.lattice.specs.Line.{endsOf, placeOf, Held, Rises}
-use Rattle.lattice.specs.Stretched.{acrossMap, alongMap}
-use Rattle.lattice.specs.Lattice.{Medium, tabulate, edgesOf}
-use Rattle.lattice.specs.Terms.{Term, each}
+use Rattle.lattice.specs.Line.{endsOf, placeOf, Held}
+use Rattle.numbers.specs.Lists.{Rises, tabulate, each, laidNumbers, allFinite, placesIn, readFrom, sumTo}
+use Rattle.lattice.specs.Stretched.{acrossMap, alongMap, mapPoints}
+use Rattle.lattice.specs.Lattice.{FullLattice, edgesOf}
+use Rattle.numbers.specs.Terms.{Term, numbersOf}
 use Rattle.weights.specs.TwoLevels.{TwoLevels, fineCells, coarseCells, nodeOn, twoOf, fineGrid, coarseGrid}
 use Rattle.weights.specs.Prolongation.{isAlong, edgeAt}
-use Rattle.weights.specs.Transfer.{numbersOf}
 use Rattle.weights.specs.CoarseEps.{edgesAlong, harmonic}
 use Rattle.weights.specs.Interpolate.{takenPlaces, interpolated}
 use Rattle.weights.specs.Product.{walled, columnIn, keptPlaces, keptTerms, freePlaces, freeTerms}
 use Rattle.weights.specs.declared.interpolate.Spots.{Spots}
 use Rattle.weights.specs.declared.interpolate.Pulls.{Pulls}
+use Rattle.weights.specs.declared.eps.Along.{Along}
 use Rattle.weights.specs.declared.rows.Pull.{Pull}
 use Rattle.weights.specs.declared.rows.Span.{Span}
+
+-- slots, entries, the doubles of the entries' weights, and nodes, 65 for each axis
+abbrev pub allSlots : ℕ
+allSlots = 384
+
+abbrev pub entryCount : ℕ
+entryCount = 768
+
+abbrev pub entryDoubles : ℕ
+entryDoubles = 1536
+
+abbrev pub nodeCount : ℕ
+nodeCount = 195
 
 -- ---- slots
 
@@ -81,20 +95,15 @@ unfoldable pub nodeNo : TwoLevels → ℕ → ℕ
 nodeNo t q = nodeOn t (q / 65) (q % 65)
 
 -- point p of the map that slots q / 64 use, at 129 (q / 64) + p
-unfoldable pub mapNo : Medium → ℕ → C64
-mapNo l k = getD (cond (eqb (k / 129 % 2) 1) (alongMap l (k / 129 / 2)) (acrossMap l (k / 129 / 2))) (k % 129) noNumber
+unfoldable pub mapNo : FullLattice → ℕ → C64
+mapNo l k = getD (cond (eqb (k / mapPoints % 2) 1) (alongMap l (k / mapPoints / 2)) (acrossMap l (k / mapPoints / 2))) (k % mapPoints) noNumber
 
 -- the map of block b of such a list
 unfoldable pub mapPoint : List Float → ℕ → ℕ → C64
-mapPoint xs b p = numberAt xs (129 * b + p)
+mapPoint xs b p = numberAt xs (mapPoints * b + p)
 
 unfoldable pub mapIn : List Float → ℕ → List C64
-mapIn xs b = tabulate (mapPoint xs b) 129 0
-
--- a list of doubles that holds n numbers f 0, f 1, .. and nothing more
-pub record Numbers (f : ℕ → C64) (n : ℕ) (xs : List Float) : Type 0 where
-  pub long : length xs ≡ 2 * n
-  pub each-is : (k : ℕ) → k < n → numberAt xs k ≡ f k
+mapIn xs b = tabulate (mapPoint xs b) mapPoints 0
 
 -- ---- the lines that a transfer is worked out from, as the levels have them
 
@@ -103,7 +112,7 @@ pub record HeldThree (s : Three) : Type 0 where
   pub y-held : Held (s .y)
   pub z-held : Held (s .z)
 
-pub record Paired (l : Medium) (fine coarse : Three) : Type 0 where
+pub record Paired (l : FullLattice) (fine coarse : Three) : Type 0 where
   pub base-limits : Limits (l .grid)
   pub fine-held : HeldThree fine
   pub coarse-held : HeldThree coarse
@@ -117,12 +126,6 @@ pub record Paired (l : Medium) (fine coarse : Three) : Type 0 where
   pub ended : (a m : ℕ) → m ≤ coarseCells (twoOf l fine coarse) a → nodeOn (twoOf l fine coarse) a m ≤ fineCells (twoOf l fine coarse) a
 
 -- ---- rows from the lists: places ps, fine places ds, counts ns, weights xs
-
-abbrev pub entryAt : List ℕ → ℕ → ℕ
-entryAt ps e = getD ps e 0
-
-abbrev pub placesIn : List ℕ → ℕ → ℕ → List ℕ
-placesIn ps e n = tabulate (entryAt ps) n e
 
 abbrev pub pullIn : List ℕ → List ℕ → List Float → ℕ → Pull
 pullIn ps ds xs e = record { place = getD ps e 0; node = getD ds e 0; weight = numberAt xs e }
@@ -167,19 +170,15 @@ numbersIn gf gc f g ps ds ns xs p =
 
 -- every slot has at most two entries, each a place of the coarse grid
 pub record PlacesOf (g : Grid3d) (ps ns : List ℕ) : Type 0 where
-  pub places-long : length ps ≡ 768
-  pub counts-long : length ns ≡ 384
-  pub few : (q : ℕ) → q < 384 → getD ns q 0 ≤ 2
-  pub place-in : (q d : ℕ) → q < 384 → d < getD ns q 0 → getD ps (2 * q + d) 0 < nOf g (q / 128)
+  pub places-long : length ps ≡ entryCount
+  pub counts-long : length ns ≡ allSlots
+  pub few : (q : ℕ) → q < allSlots → getD ns q 0 ≤ 2
+  pub place-in : (q d : ℕ) → q < allSlots → d < getD ns q 0 → getD ps (2 * q + d) 0 < nOf g (q / 128)
 
 -- the fine places of the entries are places of the fine grid
 pub record NodesOf (g : Grid3d) (ds ns : List ℕ) : Type 0 where
-  pub nodes-long : length ds ≡ 768
-  pub node-in : (q d : ℕ) → q < 384 → d < getD ns q 0 → getD ds (2 * q + d) 0 < nOf g (q / 128)
-
--- a reader of the numbers of a list from place `from` on
-unfoldable pub readFrom : List Float → ℕ → ℕ → C64
-readFrom xs from r = numberAt xs (from + r)
+  pub nodes-long : length ds ≡ entryCount
+  pub node-in : (q d : ℕ) → q < allSlots → d < getD ns q 0 → getD ds (2 * q + d) 0 < nOf g (q / 128)
 
 -- the list has the permittivities of both levels
 pub record RoomOf (s : Span) (eps : List Float) : Type 0 where
@@ -194,7 +193,7 @@ pub record SpanOf (s : Span) (ps ds ns : List ℕ) (xs eps : List Float) : Type 
   pub coarse-in : Limits (s .coarse)
   pub places : PlacesOf (s .coarse) ps ns
   pub nodes : NodesOf (s .fine) ds ns
-  pub pulls-long : length xs ≡ 1536
+  pub pulls-long : length xs ≡ entryDoubles
   pub room : RoomOf s eps
 
 -- the rows of a transfer from the lists, by number
@@ -203,6 +202,15 @@ columnsRow gf gc ps ns r = columnsIn gc ps ns (atOf gf r)
 
 unfoldable pub numbersRow : Grid3d → Grid3d → (ℕ → C64) → (ℕ → C64) → List ℕ → List ℕ → List ℕ → List Float → ℕ → List C64
 numbersRow gf gc f g ps ds ns xs r = numbersIn gf gc f g ps ds ns xs (atOf gf r)
+
+-- the numbers of row r have been laid from place `at` on; b tells whether they are finite
+pub record RowLaid (s : Span) (ps ds ns : List ℕ) (xs eps values : List Float) (at r : ℕ) (b : Bool) (values′ : List Float) : Type 0 where
+  pub numbers-are : values′ ≡ laidNumbers values at (numbersRow (s .fine) (s .coarse) (readFrom eps (s .feps)) (readFrom eps (s .ceps)) ps ds ns xs r)
+  pub finite : b ≡ allFinite (numbersRow (s .fine) (s .coarse) (readFrom eps (s .feps)) (readFrom eps (s .ceps)) ps ds ns xs r)
+
+-- the fine edges whose permittivities a row reads: the fine places of its entries, as places of the fine grid
+unfoldable pub readsRow : Grid3d → List ℕ → List ℕ → ℕ → List ℕ
+readsRow gf ds ns r = columnsRow gf gf ds ns r
 
 -- how many weights a row has, from the counts
 unfoldable pub countIn : List ℕ → Position → ℕ
@@ -234,14 +242,14 @@ pullList s =
     (record { column = s .first; number = s .low } ∷ (record { column = s .second; number = s .high } ∷ [])))
 
 -- a component across a wall axis is fixed at place 0
-unfoldable pub slotWall : Medium → ℕ → Bool
+unfoldable pub slotWall : FullLattice → ℕ → Bool
 slotWall l q = walled l (slotAxis q) (slotAlong q)
 
 -- the coarse values' places of a slot's axis and role
 unfoldable pub slotBlock : Grid3d → List ℕ → ℕ → List ℕ
 slotBlock gc cs q = placesIn cs (q - slotPlace q) (nOf gc (slotAxis q))
 
-unfoldable pub slotTaken : Medium → Grid3d → Grid3d → List ℕ → List ℕ → ℕ → List ℕ
+unfoldable pub slotTaken : FullLattice → Grid3d → Grid3d → List ℕ → List ℕ → ℕ → List ℕ
 slotTaken l gf gc fs cs q =
     cond (ltb (slotPlace q) (nOf gf (slotAxis q)))
     (cond (slotWall l q && eqb (slotPlace q) 0)
@@ -249,7 +257,7 @@ slotTaken l gf gc fs cs q =
     (keptPlaces (slotWall l q) (takenPlaces (edgesOf l (slotAxis q)) (slotBlock gc cs q) (slotAlong q) (getD fs q 0))))
     []
 
-unfoldable pub slotPulled : Medium → Grid3d → Grid3d → List ℕ → List ℕ → List Float → List ℕ → ℕ → List Term
+unfoldable pub slotPulled : FullLattice → Grid3d → Grid3d → List ℕ → List ℕ → List Float → List ℕ → ℕ → List Term
 slotPulled l gf gc fs cs xs es q =
     cond (ltb (slotPlace q) (nOf gf (slotAxis q)))
     (cond (slotWall l q && eqb (slotPlace q) 0)
@@ -258,17 +266,17 @@ slotPulled l gf gc fs cs xs es q =
     (interpolated (edgesOf l (slotAxis q)) (mapIn xs (q / 64)) (slotBlock gc cs q) (getD es (slotAxis q) 0) (slotAlong q) (getD fs q 0))))
     []
 
-unfoldable pub countFrom : Medium → Grid3d → Grid3d → List ℕ → List ℕ → ℕ → ℕ
+unfoldable pub countFrom : FullLattice → Grid3d → Grid3d → List ℕ → List ℕ → ℕ → ℕ
 countFrom l gf gc fs cs q = length (slotTaken l gf gc fs cs q)
 
-unfoldable pub placeFrom : Medium → Grid3d → Grid3d → List ℕ → List ℕ → ℕ → ℕ
+unfoldable pub placeFrom : FullLattice → Grid3d → Grid3d → List ℕ → List ℕ → ℕ → ℕ
 placeFrom l gf gc fs cs e = getD (slotTaken l gf gc fs cs (e / 2)) (e % 2) 0
 
 -- nodes nn (65 for each axis) and places ps
 unfoldable pub nodeFrom : List ℕ → List ℕ → ℕ → ℕ
 nodeFrom nn ps e = cond (slotAlong (e / 2)) (slotPlace (e / 2)) (getD nn (65 * slotAxis (e / 2) + getD ps e 0) 0)
 
-unfoldable pub pullFrom : Medium → Grid3d → Grid3d → List ℕ → List ℕ → List Float → List ℕ → ℕ → C64
+unfoldable pub pullFrom : FullLattice → Grid3d → Grid3d → List ℕ → List ℕ → List Float → List ℕ → ℕ → C64
 pullFrom l gf gc fs cs xs es e = getD (numbersOf (slotPulled l gf gc fs cs xs es (e / 2))) (e % 2) zeroNumber
 
 -- the last end of each axis's line
@@ -277,14 +285,14 @@ endNo line a = getD (line a) (length (line a) - 1) 0
 
 -- what the slots are worked out from: as many values as slots, each place below 129
 pub record ValuesOf (fs cs : List ℕ) : Type 0 where
-  pub fine-long : length fs ≡ 384
-  pub coarse-long : length cs ≡ 384
-  pub fine-low : (q : ℕ) → q < 384 → getD fs q 0 < 129
-  pub low : (q : ℕ) → q < 384 → getD cs q 0 < 129
+  pub fine-long : length fs ≡ allSlots
+  pub coarse-long : length cs ≡ allSlots
+  pub fine-low : (q : ℕ) → q < allSlots → getD fs q 0 < mapPoints
+  pub low : (q : ℕ) → q < allSlots → getD cs q 0 < mapPoints
 
 pub record EndsOf (es : List ℕ) : Type 0 where
   pub ends-long : length es ≡ 3
-  pub end-low : (a : ℕ) → a < 3 → getD es a 0 < 129
+  pub end-low : (a : ℕ) → a < 3 → getD es a 0 < mapPoints
 
 -- ---- coarse permittivities from the lists: the nodes nn, 65 for each axis
 
@@ -302,6 +310,16 @@ unfoldable pub coarseEpsIn : Grid3d → Grid3d → List ℕ → (ℕ → C64) �
 coarseEpsIn gf gc nn f r =
     harmonic f (edgesAlong gf (onFineIn nn (atOf gc r)) (cellFirst nn (atOf gc r)) (cellLast nn (atOf gc r) - cellFirst nn (atOf gc r)))
 
+-- the edges that it reads
+unfoldable pub epsReadsIn : Grid3d → Grid3d → List ℕ → ℕ → List ℕ
+epsReadsIn gf gc nn r = edgesAlong gf (onFineIn nn (atOf gc r)) (cellFirst nn (atOf gc r)) (cellLast nn (atOf gc r) - cellFirst nn (atOf gc r))
+
+-- they are those at places first to last - 1 along the component of a node
+pub record CellAt (gc : Grid3d) (nn : List ℕ) (r : ℕ) (c : Along) : Type 0 where
+  pub node-is : c .node ≡ onFineIn nn (atOf gc r)
+  pub first-is : c .first ≡ cellFirst nn (atOf gc r)
+  pub last-is : c .last ≡ cellLast nn (atOf gc r)
+
 -- the places up to `last` along the component of p, and p itself across it, lie in the grid
 pub record LineInside (g : Grid3d) (p : Position) (last : ℕ) : Type 0 where
   pub c-in : p .component < 3
@@ -309,7 +327,7 @@ pub record LineInside (g : Grid3d) (p : Position) (last : ℕ) : Type 0 where
 
 -- the coarse nodes are nodes of the fine grid, and a cell's nodes rise
 pub record NestedIn (gf gc : Grid3d) (nn : List ℕ) : Type 0 where
-  pub long : length nn ≡ 195
+  pub long : length nn ≡ nodeCount
   pub inside : (a m : ℕ) → a < 3 → m < nOf gc a → getD nn (65 * a + m) 0 < nOf gf a
   pub ends-in : (a m : ℕ) → a < 3 → m < nOf gc a → getD nn (65 * a + m + 1) 0 ≤ nOf gf a
   pub rise : (a m : ℕ) → a < 3 → m < nOf gc a → getD nn (65 * a + m) 0 ≤ getD nn (65 * a + m + 1) 0
@@ -330,10 +348,21 @@ pub record RoomFor (t : TwoLevels) (feps ceps : ℕ) (eps : List Float) : Type 0
 -- ---- counting
 
 pub record CountsOf (ns : List ℕ) : Type 0 where
-  pub long : length ns ≡ 384
-  pub few : (q : ℕ) → q < 384 → getD ns q 0 ≤ 2
+  pub long : length ns ≡ allSlots
+  pub few : (q : ℕ) → q < allSlots → getD ns q 0 ≤ 2
 
 -- the weights of the first n rows
 unfoldable pub countedTo : Grid3d → List ℕ → ℕ → ℕ
 countedTo gf ns zero = 0
 countedTo gf ns (suc n) = countedTo gf ns n + countIn ns (atOf gf n)
+
+-- the count of place i of axis a for component c
+unfoldable pub slotCount : List ℕ → ℕ → ℕ → ℕ → ℕ
+slotCount ns c a i = getD ns (slotOf a (eqb a c) i) 0
+
+-- the counts of the n places of axis a for component c, added; the weights of the component's rows
+unfoldable pub axisCount : List ℕ → ℕ → ℕ → ℕ → ℕ
+axisCount ns c a n = sumTo (slotCount ns c a) n
+
+unfoldable pub componentCount : Grid3d → List ℕ → ℕ → ℕ
+componentCount gf ns c = axisCount ns c 0 (gf .nx) * axisCount ns c 1 (gf .ny) * axisCount ns c 2 (gf .nz)

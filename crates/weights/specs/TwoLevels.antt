@@ -6,13 +6,13 @@ use lib.ListN.{length, getD}
 use Rattle.lattice.specs.declared.grid.Grid3d.{Grid3d}
 use Rattle.lattice.specs.declared.levels.Three.{Three}
 use Rattle.lattice.specs.Grid.{axis3}
-use Rattle.lattice.specs.Lattice.{Medium}
+use Rattle.lattice.specs.Lattice.{FullLattice}
 use Rattle.lattice.specs.Line.{nodesOf, endsOf}
 use Rattle.lattice.specs.Levels.{lineAt}
 
 -- the lattice, for its axis kinds and maps, and the ends of the fine and the coarse line of each axis
 pub record TwoLevels : Type 0 where
-  pub base : Medium
+  pub base : FullLattice
   pub fineX : List ℕ
   pub fineY : List ℕ
   pub fineZ : List ℕ
@@ -47,7 +47,7 @@ unfoldable pub coarseGrid : TwoLevels → Grid3d
 coarseGrid t = gridWith (t .base .grid) (coarseCells t 0) (coarseCells t 1) (coarseCells t 2)
 
 -- the lattice with the cells of a level
-unfoldable pub onGrid : Medium → Grid3d → Medium
+unfoldable pub onGrid : FullLattice → Grid3d → FullLattice
 onGrid l g =
     record {
       grid = g;
@@ -60,14 +60,14 @@ onGrid l g =
       halves = l .halves;
     }
 
-unfoldable pub fineLattice : TwoLevels → Medium
+unfoldable pub fineLattice : TwoLevels → FullLattice
 fineLattice t = onGrid (t .base) (fineGrid t)
 
-unfoldable pub coarseLattice : TwoLevels → Medium
+unfoldable pub coarseLattice : TwoLevels → FullLattice
 coarseLattice t = onGrid (t .base) (coarseGrid t)
 
 -- levels L and L + 1 of a lattice
-unfoldable pub twoAt : Medium → ℕ → TwoLevels
+unfoldable pub twoAt : FullLattice → ℕ → TwoLevels
 twoAt l L =
     record {
       base = l;
@@ -80,7 +80,7 @@ twoAt l L =
     }
 
 -- the two levels whose lines two records hold
-unfoldable pub twoOf : Medium → Three → Three → TwoLevels
+unfoldable pub twoOf : FullLattice → Three → Three → TwoLevels
 twoOf l fine coarse =
     record {
       base = l;

@@ -5,16 +5,14 @@ ghost use mathlib.Core.Path.{_≡_};
 ghost use mathlib.Core.List.{[], _∷_};
 ghost use Prim.Native.Nat.{ℕ, _+_, _-_, _*_, _<_, _≤_, _^_};
 ghost use lib.ListN.{length, getD};
-ghost use Rattle.numbers.specs.Complex.{zeroNumber};
+ghost use Rattle.numbers.specs.Complex.{zeroNumber, finite};
 ghost use Rattle.numbers.specs.Places.{numberAt, setNumber};
 ghost use Rattle.lattice.specs.Grid.{unknownsOf, Limits, placeOn, atOf};
-ghost use Rattle.lattice.specs.Lattice.{medium, tabulate};
-ghost use Rattle.lattice.specs.Rows.{summed};
-ghost use Rattle.weights.specs.Lists.{laidNumbers, allFinite};
+ghost use Rattle.lattice.specs.Lattice.{fullLattice};
+ghost use Rattle.numbers.specs.Lists.{tabulate, summed, laidNumbers, allFinite, readFrom, anyFlag};
 ghost use Rattle.weights.specs.TwoLevels.{fineGrid, coarseGrid, twoOf};
 ghost use Rattle.weights.specs.CoarseEps.{edgesAlong, inverted, coarseEps};
-ghost use Rattle.weights.specs.Tables.{Paired, readFrom, NestedIn, ChainRoom, LineInside, onFineIn, coarseEpsIn};
-use crate::lists;
+ghost use Rattle.weights.specs.Tables.{Paired, NestedIn, ChainRoom, LineInside, onFineIn, coarseEpsIn, epsReadsIn, CellAt, nodeCount};
 use crate::tables;
 use lattice::grid;
 use lattice::grid::Grid3d;
@@ -22,10 +20,18 @@ use lattice::grid::Position;
 use lattice::lattice::Lattice;
 use lattice::levels::Three;
 use numbers::C64;
+use numbers::lists;
+
+// The fine edges of a coarse edge's cell: places first to last - 1 along the component of a node of the fine level.
+pub struct Along {
+    pub node: Position,
+    pub first: usize,
+    pub last: usize,
+}
 
 // The node of a coarse position on the fine level. nn has the nodes' numbers, 65 for each axis.
 fn on_fine(nn: &[usize], p: Position) -> Position
-    requires { ⌜ length (now nn) ≡ 195 ⌝ }
+    requires { ⌜ length (now nn) ≡ nodeCount ⌝ }
     requires { ⌜ (p .i < 64) × (p .j < 64) × (p .k < 64) ⌝ }
     ensures { λ r. ⌜ r ≡ onFineIn (now (nn .entry)) p ⌝ }
 {
@@ -62,6 +68,21 @@ pub fn sum_of_inverses(
     sum
 }
 
+// The cell of coarse edge r.
+fn cell_at(gc: Grid3d, nn: &[usize], r: usize) -> Along
+    requires { ⌜ (Limits gc) × (length (now nn) ≡ nodeCount) ⌝ }
+    requires { ⌜ r < unknownsOf gc ⌝ }
+    ensures { λ c. ⌜ CellAt gc (now (nn .entry)) r c ⌝ }
+{
+    let p = grid::at(gc, r);
+    let a = p.component;
+    let m = grid::place_on(p, a);
+    let node = on_fine(nn, p);
+    let first = nn[65 * a + m];
+    let last = nn[65 * a + m + 1];
+    Along { node, first, last }
+}
+
 // The permittivity of coarse edge r: how many fine edges its cell has over the sum of their inverses.
 pub fn coarse_eps_at(
     gf: Grid3d,
@@ -77,13 +98,58 @@ pub fn coarse_eps_at(
     requires { ⌜ r < unknownsOf gc ⌝ }
     ensures { λ v. ⌜ v ≡ coarseEpsIn gf gc (now (nn .entry)) (readFrom (now (eps .entry)) from) r ⌝ }
 {
-    let p = grid::at(gc, r);
-    let a = p.component;
-    let m = grid::place_on(p, a);
-    let first = nn[65 * a + m];
-    let last = nn[65 * a + m + 1];
-    let sum = sum_of_inverses(gf, eps, from, on_fine(nn, p), first, last);
-    numbers::real_over((last - first) as f64, sum)
+    let c = cell_at(gc, nn, r);
+    let sum = sum_of_inverses(gf, eps, from, c.node, c.first, c.last);
+    numbers::real_over((c.last - c.first) as f64, sum)
+}
+
+// The same laid at place to + r of the list that is read; whether it is finite.
+pub fn coarse_eps_row(
+    gf: Grid3d,
+    gc: Grid3d,
+    nn: &[usize],
+    eps: &mut [f64],
+    from: usize,
+    to: usize,
+    r: usize,
+) -> bool
+    requires { ⌜ (Limits gf) × (Limits gc) ⌝ }
+    requires { ⌜ NestedIn gf gc (now nn) ⌝ }
+    requires { ⌜ (from ≤ 2 ^ 32) × (2 * (from + unknownsOf gf) ≤ length (now eps)) ⌝ }
+    requires { ⌜ (r < unknownsOf gc) × (to ≤ 2 ^ 32) ⌝ }
+    ensures { λ _. ⌜ now (eps .exit) ≡ setNumber (now (eps .entry)) (to + r) (coarseEpsIn gf gc (now (nn .entry)) (readFrom (now (eps .entry)) from) r) ⌝ }
+    ensures { λ b. ⌜ b ≡ finite (coarseEpsIn gf gc (now (nn .entry)) (readFrom (now (eps .entry)) from) r) ⌝ }
+{
+    let v = coarse_eps_at(gf, gc, nn, eps, from, r);
+    numbers::put(eps, to + r, v);
+    numbers::is_finite(v)
+}
+
+// Whether one of the edges at places first to last - 1 along the component of p is flagged.
+fn line_flagged(gf: Grid3d, flags: &[bool], p: Position, first: usize, last: usize) -> bool
+    requires { ⌜ Limits gf ⌝ }
+    requires { ⌜ (first ≤ last) × (LineInside gf p last) ⌝ }
+    ensures { λ b. ⌜ b ≡ anyFlag (now (flags .entry)) (edgesAlong gf p first (last - first)) ⌝ }
+{
+    let n = last - first;
+    for m in 0..n {
+        let c = grid::index(gf, grid::moved_to(p, p.component, first + m));
+        if lists::flagged(flags, c) {
+            return true;
+        }
+    }
+    false
+}
+
+// Whether one of the fine edges that the permittivity of coarse edge r reads is flagged.
+pub fn eps_flagged(gf: Grid3d, gc: Grid3d, nn: &[usize], flags: &[bool], r: usize) -> bool
+    requires { ⌜ (Limits gf) × (Limits gc) ⌝ }
+    requires { ⌜ NestedIn gf gc (now nn) ⌝ }
+    requires { ⌜ r < unknownsOf gc ⌝ }
+    ensures { λ b. ⌜ b ≡ anyFlag (now (flags .entry)) (epsReadsIn gf gc (now (nn .entry)) r) ⌝ }
+{
+    let c = cell_at(gc, nn, r);
+    line_flagged(gf, flags, c.node, c.first, c.last)
 }
 
 // Those of a whole level, read from place `from` on and laid into the same list from place `to` on.
@@ -95,8 +161,7 @@ fn all_eps(gf: Grid3d, gc: Grid3d, nn: &[usize], eps: &mut [f64], from: usize, t
 {
     let n = grid::unknowns(gc);
     for r in 0..n {
-        let v = coarse_eps_at(gf, gc, nn, eps, from, r);
-        numbers::put(eps, to + r, v);
+        coarse_eps_row(gf, gc, nn, eps, from, to, r);
     }
 }
 
@@ -110,10 +175,10 @@ pub fn coarse_eps(
     from: usize,
     to: usize,
 ) -> bool
-    requires { ⌜ Paired (medium l (now st)) fine coarse ⌝ }
-    requires { ⌜ ChainRoom (unknownsOf (fineGrid (twoOf (medium l (now st)) fine coarse))) (unknownsOf (coarseGrid (twoOf (medium l (now st)) fine coarse))) from to (now eps) ⌝ }
-    ensures { λ _. ⌜ now (eps .exit) ≡ laidNumbers (now (eps .entry)) to (tabulate (coarseEps (twoOf (medium l (now (st .entry))) fine coarse) (readFrom (now (eps .entry)) from)) (unknownsOf (coarseGrid (twoOf (medium l (now (st .entry))) fine coarse))) 0) ⌝ }
-    ensures { λ r. ⌜ r ≡ allFinite (tabulate (coarseEps (twoOf (medium l (now (st .entry))) fine coarse) (readFrom (now (eps .entry)) from)) (unknownsOf (coarseGrid (twoOf (medium l (now (st .entry))) fine coarse))) 0) ⌝ }
+    requires { ⌜ Paired (fullLattice l (now st)) fine coarse ⌝ }
+    requires { ⌜ ChainRoom (unknownsOf (fineGrid (twoOf (fullLattice l (now st)) fine coarse))) (unknownsOf (coarseGrid (twoOf (fullLattice l (now st)) fine coarse))) from to (now eps) ⌝ }
+    ensures { λ _. ⌜ now (eps .exit) ≡ laidNumbers (now (eps .entry)) to (tabulate (coarseEps (twoOf (fullLattice l (now (st .entry))) fine coarse) (readFrom (now (eps .entry)) from)) (unknownsOf (coarseGrid (twoOf (fullLattice l (now (st .entry))) fine coarse))) 0) ⌝ }
+    ensures { λ r. ⌜ r ≡ allFinite (tabulate (coarseEps (twoOf (fullLattice l (now (st .entry))) fine coarse) (readFrom (now (eps .entry)) from)) (unknownsOf (coarseGrid (twoOf (fullLattice l (now (st .entry))) fine coarse))) 0) ⌝ }
 {
     let gf = tables::grid_of(l.grid, fine);
     let gc = tables::grid_of(l.grid, coarse);

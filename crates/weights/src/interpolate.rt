@@ -9,8 +9,10 @@ ghost use Rattle.numbers.specs.Complex.{noNumber};
 ghost use Rattle.lattice.specs.Lattice.{isWall};
 ghost use Rattle.weights.specs.Interpolate.{upTo, meets as meetsAt, outside as outsideOf, ruleBy, ruleOf, lowSide, highSide, sidePlaces, rulePlaces, takenPlaces, coordinate as coordinateAt, lowCoordinate, highCoordinate, ratio as ratioOf, ratioAt, sideTerms, twoSides, ruleTerms, interpolated};
 ghost use Rattle.weights.specs.Product.{keptPlaces, keptTerms};
-ghost use Rattle.weights.specs.Tables.{placesIn, spotsOf, spotList, pullsOf, pullList, mapIn};
+ghost use Rattle.numbers.specs.Lists.{placesIn};
+ghost use Rattle.weights.specs.Tables.{spotsOf, spotList, pullsOf, pullList, mapIn, allSlots};
 ghost use mathlib.Core.List.{[], _∷_, _++_};
+ghost use Rattle.lattice.specs.Stretched.{mapPoints};
 use lattice::lattice::Edges;
 use lattice::neighbours::Arrival;
 use numbers::C64;
@@ -44,7 +46,7 @@ pub struct Pulls {
 
 // How many coarse values lie at or before place p.
 fn up_to(places: &[usize], from: usize, n: usize, p: usize) -> usize
-    requires { ⌜ (from + n ≤ length (now places)) × (from + n ≤ 384) ⌝ }
+    requires { ⌜ (from + n ≤ length (now places)) × (from + n ≤ allSlots) ⌝ }
     ensures { λ r. ⌜ (r ≡ upTo (placesIn (now (places .entry)) from n) p) × (r ≤ n) ⌝ }
 {
     for m in 0..n {
@@ -67,7 +69,7 @@ fn less_one(h: usize) -> usize
 
 // Whether the last of the h values is at p.
 fn meets(places: &[usize], from: usize, n: usize, p: usize, h: usize) -> bool
-    requires { ⌜ (from + n ≤ length (now places)) × (from + n ≤ 384) ⌝ }
+    requires { ⌜ (from + n ≤ length (now places)) × (from + n ≤ allSlots) ⌝ }
     requires { ⌜ h ≤ n ⌝ }
     ensures { λ r. ⌜ r ≡ meetsAt (placesIn (now (places .entry)) from n) p h ⌝ }
 {
@@ -102,7 +104,7 @@ fn rule_by(wall: bool, along: bool, n: usize, h: usize, met: bool) -> Rule
 
 // The rule of place p.
 pub fn rule_of(e: Edges, places: &[usize], from: usize, n: usize, along: bool, p: usize) -> Rule
-    requires { ⌜ (from + n ≤ length (now places)) × (from + n ≤ 384) ⌝ }
+    requires { ⌜ (from + n ≤ length (now places)) × (from + n ≤ allSlots) ⌝ }
     ensures { λ r. ⌜ r ≡ ruleOf e (placesIn (now (places .entry)) from n) along p ⌝ }
 {
     let h = up_to(places, from, n, p);
@@ -118,7 +120,7 @@ fn low_side(e: Edges, n: usize, h: usize) -> Arrival
     if h == 0 {
         match e {
             Edges::Pml => Arrival::Beyond,
-            Edges::Bloch(re, im) => Arrival::To(n - 1, numbers::inv(C64 { re, im })),
+            Edges::Bloch(p) => Arrival::To(n - 1, numbers::inv(p)),
         }
     } else {
         Arrival::To(h - 1, numbers::one())
@@ -131,7 +133,7 @@ fn high_side(e: Edges, n: usize, h: usize) -> Arrival
     if n <= h {
         match e {
             Edges::Pml => Arrival::Beyond,
-            Edges::Bloch(re, im) => Arrival::To(0, C64 { re, im }),
+            Edges::Bloch(p) => Arrival::To(0, p),
         }
     } else {
         Arrival::To(h, numbers::one())
@@ -229,7 +231,7 @@ pub fn taken(
     p: usize,
     wall: bool,
 ) -> Spots
-    requires { ⌜ (from + n ≤ length (now places)) × (from + n ≤ 384) ⌝ }
+    requires { ⌜ (from + n ≤ length (now places)) × (from + n ≤ allSlots) ⌝ }
     requires { ⌜ 0 < n ⌝ }
     ensures { λ r. ⌜ r ≡ spotsOf (keptPlaces wall (takenPlaces e (placesIn (now (places .entry)) from n) along p)) ⌝ }
 {
@@ -253,7 +255,7 @@ fn coordinate(e: Edges, maps: &[f64], b: usize, p: usize) -> C64
             let nan = 0.0 / 0.0;
             C64 { re: nan, im: nan }
         }
-        Edges::Bloch(_, _) => C64 {
+        Edges::Bloch(_) => C64 {
             re: p as f64,
             im: 0.0,
         },
@@ -272,9 +274,9 @@ fn low_coordinate(
     h: usize,
 ) -> C64
     requires { ⌜ (length (now maps) ≡ 1548) × (b < 6) ⌝ }
-    requires { ⌜ (from + n ≤ length (now places)) × (from + n ≤ 384) ⌝ }
-    requires { ⌜ (0 < n) × (period < 129) ⌝ }
-    requires { ⌜ ((m : ℕ) → m < n → getD (now places) (from + m) 0 < 129) ⌝ }
+    requires { ⌜ (from + n ≤ length (now places)) × (from + n ≤ allSlots) ⌝ }
+    requires { ⌜ (0 < n) × (period < mapPoints) ⌝ }
+    requires { ⌜ ((m : ℕ) → m < n → getD (now places) (from + m) 0 < mapPoints) ⌝ }
     requires { ⌜ h ≤ n ⌝ }
     ensures { λ r. ⌜ r ≡ lowCoordinate e (mapIn (now (maps .entry)) b) (placesIn (now (places .entry)) from n) period h ⌝ }
 {
@@ -299,9 +301,9 @@ fn high_coordinate(
     h: usize,
 ) -> C64
     requires { ⌜ (length (now maps) ≡ 1548) × (b < 6) ⌝ }
-    requires { ⌜ (from + n ≤ length (now places)) × (from + n ≤ 384) ⌝ }
-    requires { ⌜ (0 < n) × (period < 129) ⌝ }
-    requires { ⌜ ((m : ℕ) → m < n → getD (now places) (from + m) 0 < 129) ⌝ }
+    requires { ⌜ (from + n ≤ length (now places)) × (from + n ≤ allSlots) ⌝ }
+    requires { ⌜ (0 < n) × (period < mapPoints) ⌝ }
+    requires { ⌜ ((m : ℕ) → m < n → getD (now places) (from + m) 0 < mapPoints) ⌝ }
     ensures { λ r. ⌜ r ≡ highCoordinate e (mapIn (now (maps .entry)) b) (placesIn (now (places .entry)) from n) period h ⌝ }
 {
     if n <= h {
@@ -329,10 +331,10 @@ fn ratio_at(
     h: usize,
 ) -> C64
     requires { ⌜ (length (now maps) ≡ 1548) × (b < 6) ⌝ }
-    requires { ⌜ (from + n ≤ length (now places)) × (from + n ≤ 384) ⌝ }
-    requires { ⌜ (0 < n) × (period < 129) ⌝ }
-    requires { ⌜ ((m : ℕ) → m < n → getD (now places) (from + m) 0 < 129) ⌝ }
-    requires { ⌜ (h ≤ n) × (p < 129) ⌝ }
+    requires { ⌜ (from + n ≤ length (now places)) × (from + n ≤ allSlots) ⌝ }
+    requires { ⌜ (0 < n) × (period < mapPoints) ⌝ }
+    requires { ⌜ ((m : ℕ) → m < n → getD (now places) (from + m) 0 < mapPoints) ⌝ }
+    requires { ⌜ (h ≤ n) × (p < mapPoints) ⌝ }
     ensures { λ r. ⌜ r ≡ ratioAt e (mapIn (now (maps .entry)) b) (placesIn (now (places .entry)) from n) period p h ⌝ }
 {
     let low = low_coordinate(e, maps, b, places, from, n, period, h);
@@ -445,10 +447,10 @@ pub fn interpolate(
     wall: bool,
 ) -> Pulls
     requires { ⌜ (length (now maps) ≡ 1548) × (b < 6) ⌝ }
-    requires { ⌜ (from + n ≤ length (now places)) × (from + n ≤ 384) ⌝ }
-    requires { ⌜ (0 < n) × (period < 129) ⌝ }
-    requires { ⌜ ((m : ℕ) → m < n → getD (now places) (from + m) 0 < 129) ⌝ }
-    requires { ⌜ p < 129 ⌝ }
+    requires { ⌜ (from + n ≤ length (now places)) × (from + n ≤ allSlots) ⌝ }
+    requires { ⌜ (0 < n) × (period < mapPoints) ⌝ }
+    requires { ⌜ ((m : ℕ) → m < n → getD (now places) (from + m) 0 < mapPoints) ⌝ }
+    requires { ⌜ p < mapPoints ⌝ }
     ensures { λ r. ⌜ r ≡ pullsOf (keptTerms wall (interpolated e (mapIn (now (maps .entry)) b) (placesIn (now (places .entry)) from n) period along p)) ⌝ }
 {
     let by = rule_of(e, places, from, n, along, p);

@@ -2,9 +2,7 @@
 
 pub mod eps;
 pub mod interpolate;
-pub mod lists;
 pub mod prolongation;
 pub mod rows;
 pub mod tables;
-pub mod transfer;
 pub mod whole;

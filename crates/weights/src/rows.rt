@@ -7,16 +7,15 @@ ghost use mathlib.Core.List.{[], _∷_};
 ghost use Prim.Native.Nat.{ℕ, _+_, _-_, _*_, _<_, _≤_, _^_};
 ghost use lib.ListN.{length, getD, set};
 ghost use Rattle.numbers.specs.Places.{numberAt, setNumber};
-ghost use Rattle.lattice.specs.Grid.{nOf, unknownsOf, Limits, Inside};
-ghost use Rattle.weights.specs.Lists.{Laid, laid, rows as rowsOf};
-ghost use Rattle.weights.specs.Transfer.{startsOf};
-ghost use Rattle.weights.specs.Tables.{slotOn, columnsInZ, columnsInY, columnsIn, weightIn, numbersInZ, numbersInY, numbersIn, PlacesOf, NodesOf, RoomOf, SpanOf, readFrom, columnsRow, numbersRow, countIn};
-use crate::lists;
+ghost use Rattle.lattice.specs.Grid.{nOf, unknownsOf, atOf, Limits, Inside};
+ghost use Rattle.numbers.specs.Lists.{Laid, laid, rows as rowsOf, startsOf, readFrom, anyFlag};
+ghost use Rattle.weights.specs.Tables.{slotOn, columnsInZ, columnsInY, columnsIn, weightIn, numbersInZ, numbersInY, numbersIn, PlacesOf, NodesOf, RoomOf, SpanOf, columnsRow, numbersRow, RowLaid, readsRow, countIn, allSlots, entryCount, entryDoubles};
 use crate::tables;
 use lattice::grid;
 use lattice::grid::Grid3d;
 use lattice::grid::Position;
 use numbers::C64;
+use numbers::lists;
 
 // An entry of a slot: the coarse place, the fine place of its permittivity, the weight.
 pub struct Pull {
@@ -127,8 +126,8 @@ pub fn columns_at(
 
 // How many weights the row of position p has.
 pub fn count_at(ns: &[usize], p: Position) -> usize
-    requires { ⌜ length (now ns) ≡ 384 ⌝ }
-    requires { ⌜ ((q : ℕ) → q < 384 → getD (now ns) q 0 ≤ 2) ⌝ }
+    requires { ⌜ length (now ns) ≡ allSlots ⌝ }
+    requires { ⌜ ((q : ℕ) → q < allSlots → getD (now ns) q 0 ≤ 2) ⌝ }
     requires { ⌜ (p .component < 3) × (p .k < 64) ⌝ }
     requires { ⌜ (p .i < 64) × (p .j < 64) ⌝ }
     ensures { λ r. ⌜ r ≡ countIn (now (ns .entry)) p ⌝ }
@@ -143,8 +142,8 @@ pub fn count_at(ns: &[usize], p: Position) -> usize
 
 // Entry e of the lists.
 fn pull_at(ps: &[usize], ds: &[usize], xs: &[f64], e: usize) -> Pull
-    requires { ⌜ (length (now ps) ≡ 768) × (length (now ds) ≡ 768) × (length (now xs) ≡ 1536) ⌝ }
-    requires { ⌜ e < 768 ⌝ }
+    requires { ⌜ (length (now ps) ≡ entryCount) × (length (now ds) ≡ entryCount) × (length (now xs) ≡ entryDoubles) ⌝ }
+    requires { ⌜ e < entryCount ⌝ }
     ensures { λ r. ⌜ r ≡ record { place = getD (now (ps .entry)) e 0; node = getD (now (ds .entry)) e 0; weight = numberAt (now (xs .entry)) e } ⌝ }
 {
     Pull {
@@ -265,6 +264,41 @@ pub fn numbers_at(
         k = numbers_y(s, ps, ds, ns, xs, eps, p, x, k, values);
     }
     k
+}
+
+// ---- one row
+
+// The weights of the row of fine edge r, laid from place `at` on; whether all are finite.
+pub fn weights_row(
+    s: Span,
+    ps: &[usize],
+    ds: &[usize],
+    ns: &[usize],
+    xs: &[f64],
+    eps: &[f64],
+    values: &mut [f64],
+    at: usize,
+    r: usize,
+) -> bool
+    requires { ⌜ SpanOf s (now ps) (now ds) (now ns) (now xs) (now eps) ⌝ }
+    requires { ⌜ r < unknownsOf (s .fine) ⌝ }
+    requires { ⌜ (at ≤ 2 ^ 32) × (2 * (at + countIn (now ns) (atOf (s .fine) r)) ≤ length (now values)) ⌝ }
+    ensures { λ b. ⌜ RowLaid s (now (ps .entry)) (now (ds .entry)) (now (ns .entry)) (now (xs .entry)) (now (eps .entry)) (now (values .entry)) at r b (now (values .exit)) ⌝ }
+{
+    let last = numbers_at(s, ps, ds, ns, xs, eps, grid::at(s.fine, r), at, values);
+    lists::finite_numbers(values, at, last - at)
+}
+
+// Whether one of the fine edges whose permittivities the row of fine edge r reads is flagged. ds are the fine places of the entries.
+pub fn weights_flagged(gf: Grid3d, ds: &[usize], ns: &[usize], flags: &[bool], r: usize) -> bool
+    requires { ⌜ Limits gf ⌝ }
+    requires { ⌜ PlacesOf gf (now ds) (now ns) ⌝ }
+    requires { ⌜ r < unknownsOf gf ⌝ }
+    ensures { λ b. ⌜ b ≡ anyFlag (now (flags .entry)) (readsRow gf (now (ds .entry)) (now (ns .entry)) r) ⌝ }
+{
+    let mut edges = [0usize; 8];
+    let n = columns_at(gf, ds, ns, grid::at(gf, r), 0, &mut edges);
+    lists::any_flag(flags, &edges, 0, n)
 }
 
 // ---- all rows

@@ -10,11 +10,12 @@ ghost use mathlib.Core.List.{[], _∷_};
 ghost use Rattle.numbers.specs.Complex.{zeroNumber};
 ghost use Rattle.numbers.specs.Places.{numberAt, setNumber};
 ghost use Rattle.lattice.specs.Grid.{Limits, nOf};
-ghost use Rattle.lattice.specs.Lattice.{medium, tabulate};
+ghost use Rattle.lattice.specs.Lattice.{fullLattice};
+ghost use Rattle.numbers.specs.Lists.{tabulate, laid, laidNumbers, Numbers};
 ghost use Rattle.lattice.specs.Line.{endsOf, placeOf, Held};
-ghost use Rattle.weights.specs.Lists.{laid, laidNumbers};
 ghost use Rattle.weights.specs.TwoLevels.{gridWith, fineGrid, coarseGrid, twoOf};
-ghost use Rattle.weights.specs.Tables.{slotOf, slotAxis, slotAlong, slotPlace, slotWall, linesIn, valueEntry, endNo, nodeNo, mapNo, Numbers, HeldThree, Paired, ValuesOf, EndsOf, spotsOf, pullsOf, slotTaken, slotPulled, countFrom, placeFrom, nodeFrom, pullFrom};
+ghost use Rattle.weights.specs.Tables.{slotOf, slotAxis, slotAlong, slotPlace, slotWall, linesIn, valueEntry, endNo, nodeNo, mapNo, HeldThree, Paired, ValuesOf, EndsOf, spotsOf, pullsOf, slotTaken, slotPulled, countFrom, placeFrom, nodeFrom, pullFrom, allSlots, entryCount, nodeCount};
+ghost use Rattle.lattice.specs.Stretched.{mapPoints};
 use crate::interpolate;
 use crate::interpolate::Pulls;
 use crate::interpolate::Spots;
@@ -26,6 +27,15 @@ use lattice::line;
 use lattice::line::Line;
 use lattice::stretched;
 use numbers::C64;
+
+// Slots: an axis, a role and a place each.
+pub const SLOTS: usize = 384;
+// At most two entries a slot.
+pub const ENTRIES: usize = 768;
+// The doubles of the entries' weights.
+pub const ENTRY_DOUBLES: usize = 1536;
+// 65 nodes for each axis.
+pub const NODES: usize = 195;
 
 // The grid of a level, by its lines.
 pub fn grid_of(g: Grid3d, s: Three) -> Grid3d
@@ -88,12 +98,12 @@ fn value_place(s: Three, q: usize) -> usize
 }
 
 // The places of a level's values, by slots.
-pub fn value_places(s: Three) -> [usize; 384]
+pub fn value_places(s: Three) -> [usize; SLOTS]
     requires { ⌜ HeldThree s ⌝ }
-    ensures { λ r. ⌜ r ≡ tabulate (valueEntry (linesIn s)) 384 0 ⌝ }
+    ensures { λ r. ⌜ r ≡ tabulate (valueEntry (linesIn s)) allSlots 0 ⌝ }
 {
-    let mut out = [0usize; 384];
-    for q in 0..384 {
+    let mut out = [0usize; SLOTS];
+    for q in 0..SLOTS {
         out[q] = value_place(s, q);
     }
     out
@@ -116,7 +126,7 @@ pub fn last_ends(s: Three) -> [usize; 3]
 
 // The nodes of one axis, laid over a list from place 65 a on.
 fn lay_nodes(nodes: [usize; 65], a: usize, out: &mut [usize])
-    requires { ⌜ (a < 3) × (length (now out) ≡ 195) ⌝ }
+    requires { ⌜ (a < 3) × (length (now out) ≡ nodeCount) ⌝ }
     ensures { λ _. ⌜ now (out .exit) ≡ laid (now (out .entry)) (65 * a) nodes ⌝ }
 {
     for m in 0..65 {
@@ -125,11 +135,11 @@ fn lay_nodes(nodes: [usize; 65], a: usize, out: &mut [usize])
 }
 
 // For each node of the coarse level the number of the same node on the fine one, 65 for each axis.
-pub fn nodes(l: Lattice, st: &[f64], fine: Three, coarse: Three) -> [usize; 195]
-    requires { ⌜ Paired (medium l (now st)) fine coarse ⌝ }
-    ensures { λ r. ⌜ r ≡ tabulate (nodeNo (twoOf (medium l (now (st .entry))) fine coarse)) 195 0 ⌝ }
+pub fn nodes(l: Lattice, st: &[f64], fine: Three, coarse: Three) -> [usize; NODES]
+    requires { ⌜ Paired (fullLattice l (now st)) fine coarse ⌝ }
+    ensures { λ r. ⌜ r ≡ tabulate (nodeNo (twoOf (fullLattice l (now (st .entry))) fine coarse)) nodeCount 0 ⌝ }
 {
-    let mut out = [0usize; 195];
+    let mut out = [0usize; NODES];
     lay_nodes(line::nodes_of(fine.x, coarse.x), 0, &mut out);
     lay_nodes(line::nodes_of(fine.y, coarse.y), 1, &mut out);
     lay_nodes(line::nodes_of(fine.z, coarse.z), 2, &mut out);
@@ -139,7 +149,7 @@ pub fn nodes(l: Lattice, st: &[f64], fine: Three, coarse: Three) -> [usize; 195]
 // A map, laid over a list of maps as block b.
 fn lay_map(x: [C64; 129], b: usize, out: &mut [f64])
     requires { ⌜ (b < 6) × (length (now out) ≡ 1548) ⌝ }
-    ensures { λ _. ⌜ now (out .exit) ≡ laidNumbers (now (out .entry)) (129 * b) x ⌝ }
+    ensures { λ _. ⌜ now (out .exit) ≡ laidNumbers (now (out .entry)) (mapPoints * b) x ⌝ }
 {
     for p in 0..129 {
         numbers::put(out, 129 * b + p, x[p]);
@@ -149,7 +159,7 @@ fn lay_map(x: [C64; 129], b: usize, out: &mut [f64])
 // The maps across and along each axis, one behind another.
 pub fn maps(l: Lattice, st: &[f64]) -> [f64; 1548]
     requires { ⌜ Limits (l .grid) ⌝ }
-    ensures { λ r. ⌜ Numbers (mapNo (medium l (now (st .entry)))) 774 r ⌝ }
+    ensures { λ r. ⌜ Numbers (mapNo (fullLattice l (now (st .entry)))) 774 r ⌝ }
 {
     let mut out = [0.0; 1548];
     lay_map(stretched::across_map(l, st, 0), 0, &mut out);
@@ -164,7 +174,7 @@ pub fn maps(l: Lattice, st: &[f64]) -> [f64; 1548]
 // ---- slots. `requires`: the values' places of both levels, and grids within the limits.
 
 fn slot_wall(l: Lattice, st: &[f64], q: usize) -> bool
-    ensures { λ r. ⌜ r ≡ slotWall (medium l (now (st .entry))) q ⌝ }
+    ensures { λ r. ⌜ r ≡ slotWall (fullLattice l (now (st .entry))) q ⌝ }
 {
     !slot_along(q) && lattice::lattice::is_wall(lattice::lattice::edges_on(l, st, q / 128))
 }
@@ -181,8 +191,8 @@ fn slot_spots(
 ) -> Spots
     requires { ⌜ Limits gc ⌝ }
     requires { ⌜ ValuesOf (now fs) (now cs) ⌝ }
-    requires { ⌜ q < 384 ⌝ }
-    ensures { λ r. ⌜ r ≡ spotsOf (slotTaken (medium l (now (st .entry))) gf gc (now (fs .entry)) (now (cs .entry)) q) ⌝ }
+    requires { ⌜ q < allSlots ⌝ }
+    ensures { λ r. ⌜ r ≡ spotsOf (slotTaken (fullLattice l (now (st .entry))) gf gc (now (fs .entry)) (now (cs .entry)) q) ⌝ }
 {
     let axis = q / 128;
     let i = q % 64;
@@ -212,8 +222,8 @@ fn slot_pulls(
     requires { ⌜ Limits gc ⌝ }
     requires { ⌜ ValuesOf (now fs) (now cs) ⌝ }
     requires { ⌜ (length (now xs) ≡ 1548) × EndsOf (now es) ⌝ }
-    requires { ⌜ q < 384 ⌝ }
-    ensures { λ r. ⌜ r ≡ pullsOf (slotPulled (medium l (now (st .entry))) gf gc (now (fs .entry)) (now (cs .entry)) (now (xs .entry)) (now (es .entry)) q) ⌝ }
+    requires { ⌜ q < allSlots ⌝ }
+    ensures { λ r. ⌜ r ≡ pullsOf (slotPulled (fullLattice l (now (st .entry))) gf gc (now (fs .entry)) (now (cs .entry)) (now (xs .entry)) (now (es .entry)) q) ⌝ }
 {
     let axis = q / 128;
     let i = q % 64;
@@ -247,13 +257,13 @@ pub fn counts(
     gc: Grid3d,
     fs: &[usize],
     cs: &[usize],
-) -> [usize; 384]
+) -> [usize; SLOTS]
     requires { ⌜ Limits gc ⌝ }
     requires { ⌜ ValuesOf (now fs) (now cs) ⌝ }
-    ensures { λ r. ⌜ r ≡ tabulate (countFrom (medium l (now (st .entry))) gf gc (now (fs .entry)) (now (cs .entry))) 384 0 ⌝ }
+    ensures { λ r. ⌜ r ≡ tabulate (countFrom (fullLattice l (now (st .entry))) gf gc (now (fs .entry)) (now (cs .entry))) allSlots 0 ⌝ }
 {
-    let mut out = [0usize; 384];
-    for q in 0..384 {
+    let mut out = [0usize; SLOTS];
+    for q in 0..SLOTS {
         out[q] = slot_spots(l, st, gf, gc, fs, cs, q).count;
     }
     out
@@ -277,13 +287,13 @@ pub fn places(
     gc: Grid3d,
     fs: &[usize],
     cs: &[usize],
-) -> [usize; 768]
+) -> [usize; ENTRIES]
     requires { ⌜ Limits gc ⌝ }
     requires { ⌜ ValuesOf (now fs) (now cs) ⌝ }
-    ensures { λ r. ⌜ r ≡ tabulate (placeFrom (medium l (now (st .entry))) gf gc (now (fs .entry)) (now (cs .entry))) 768 0 ⌝ }
+    ensures { λ r. ⌜ r ≡ tabulate (placeFrom (fullLattice l (now (st .entry))) gf gc (now (fs .entry)) (now (cs .entry))) entryCount 0 ⌝ }
 {
-    let mut out = [0usize; 768];
-    for e in 0..768 {
+    let mut out = [0usize; ENTRIES];
+    for e in 0..ENTRIES {
         out[e] = spot_no(slot_spots(l, st, gf, gc, fs, cs, e / 2), e % 2);
     }
     out
@@ -291,8 +301,8 @@ pub fn places(
 
 // The fine place where the permittivity of each entry is read.
 fn read_place(nn: &[usize], ps: &[usize], e: usize) -> usize
-    requires { ⌜ (length (now nn) ≡ 195) × (length (now ps) ≡ 768) ⌝ }
-    requires { ⌜ e < 768 ⌝ }
+    requires { ⌜ (length (now nn) ≡ nodeCount) × (length (now ps) ≡ entryCount) ⌝ }
+    requires { ⌜ e < entryCount ⌝ }
     requires { ⌜ getD (now ps) e 0 < 65 ⌝ }
     ensures { λ r. ⌜ r ≡ nodeFrom (now (nn .entry)) (now (ps .entry)) e ⌝ }
 {
@@ -303,13 +313,13 @@ fn read_place(nn: &[usize], ps: &[usize], e: usize) -> usize
     nn[65 * (q / 128) + ps[e]]
 }
 
-pub fn reads(nn: &[usize], ps: &[usize]) -> [usize; 768]
-    requires { ⌜ (length (now nn) ≡ 195) × (length (now ps) ≡ 768) ⌝ }
-    requires { ⌜ ((e : ℕ) → e < 768 → getD (now ps) e 0 < 65) ⌝ }
-    ensures { λ r. ⌜ r ≡ tabulate (nodeFrom (now (nn .entry)) (now (ps .entry))) 768 0 ⌝ }
+pub fn reads(nn: &[usize], ps: &[usize]) -> [usize; ENTRIES]
+    requires { ⌜ (length (now nn) ≡ nodeCount) × (length (now ps) ≡ entryCount) ⌝ }
+    requires { ⌜ ((e : ℕ) → e < entryCount → getD (now ps) e 0 < 65) ⌝ }
+    ensures { λ r. ⌜ r ≡ tabulate (nodeFrom (now (nn .entry)) (now (ps .entry))) entryCount 0 ⌝ }
 {
-    let mut out = [0usize; 768];
-    for e in 0..768 {
+    let mut out = [0usize; ENTRIES];
+    for e in 0..ENTRIES {
         out[e] = read_place(nn, ps, e);
     }
     out
@@ -335,14 +345,14 @@ pub fn pulls(
     cs: &[usize],
     xs: &[f64],
     es: &[usize],
-) -> [f64; 1536]
+) -> [f64; ENTRY_DOUBLES]
     requires { ⌜ Limits gc ⌝ }
     requires { ⌜ ValuesOf (now fs) (now cs) ⌝ }
     requires { ⌜ (length (now xs) ≡ 1548) × EndsOf (now es) ⌝ }
-    ensures { λ r. ⌜ Numbers (pullFrom (medium l (now (st .entry))) gf gc (now (fs .entry)) (now (cs .entry)) (now (xs .entry)) (now (es .entry))) 768 r ⌝ }
+    ensures { λ r. ⌜ Numbers (pullFrom (fullLattice l (now (st .entry))) gf gc (now (fs .entry)) (now (cs .entry)) (now (xs .entry)) (now (es .entry))) entryCount r ⌝ }
 {
-    let mut out = [0.0; 1536];
-    for e in 0..768 {
+    let mut out = [0.0; ENTRY_DOUBLES];
+    for e in 0..ENTRIES {
         let s = slot_pulls(l, st, gf, gc, fs, cs, xs, es, e / 2);
         numbers::put(&mut out, e, pull_no(s, e % 2));
     }

@@ -1,35 +1,31 @@
 // A whole transfer in lent lists: the coarse permittivities, the forward rows and the turned rows.
 
 ghost use mathlib.Core.Path.{_≡_};
-ghost use Rattle.lattice.specs.Lattice.{medium};
+ghost use Rattle.lattice.specs.Lattice.{fullLattice};
 ghost use Rattle.weights.specs.TwoLevels.{twoOf};
-ghost use Rattle.weights.specs.Tables.{Paired, readFrom};
+ghost use Rattle.weights.specs.Tables.{Paired};
+ghost use Rattle.numbers.specs.Lists.{readFrom};
 ghost use Rattle.weights.specs.Whole.{WholeRoom, WholeLeft, wholeFinite};
 use crate::eps;
 use crate::prolongation;
 use crate::tables;
-use crate::transfer;
 use lattice::grid;
 use lattice::lattice::Lattice;
 use lattice::levels::Three;
+use numbers::terms::Part;
+use numbers::transpose;
 
-// Where the parts begin: the permittivities of the fine and the coarse level, the forward starts and terms, the turned starts and terms.
-pub struct Offsets {
-    pub feps: usize,
-    pub ceps: usize,
-    pub s: usize,
-    pub k: usize,
-    pub ts: usize,
-    pub tk: usize,
-}
-
-// The transfer between two levels. Whether every number of it is finite. `requires`: the lines of two neighbouring levels, and room.
+// The transfer between two levels: the coarse permittivities from place ceps on, the fine ones standing from feps on; forward rows from p on, turned
+// rows from t on. Whether every number of it is finite. `requires`: the lines of two neighbouring levels, and room.
 pub fn transfer(
     l: Lattice,
     st: &[f64],
     fine: Three,
     coarse: Three,
-    o: Offsets,
+    feps: usize,
+    ceps: usize,
+    p: Part,
+    t: Part,
     eps: &mut [f64],
     starts: &mut [usize],
     columns: &mut [usize],
@@ -38,31 +34,31 @@ pub fn transfer(
     tcolumns: &mut [usize],
     tvalues: &mut [f64],
 ) -> bool
-    requires { ⌜ Paired (medium l (now st)) fine coarse ⌝ }
-    requires { ⌜ WholeRoom (twoOf (medium l (now st)) fine coarse) o (now eps) (now starts) (now columns) (now values) (now tstarts) (now tcolumns) (now tvalues) ⌝ }
-    ensures { λ _. ⌜ WholeLeft (twoOf (medium l (now (st .entry))) fine coarse) o (now (eps .entry)) (now (starts .entry)) (now (columns .entry)) (now (values .entry)) (now (tstarts .entry)) (now (tcolumns .entry)) (now (tvalues .entry)) (now (eps .exit)) (now (starts .exit)) (now (columns .exit)) (now (values .exit)) (now (tstarts .exit)) (now (tcolumns .exit)) (now (tvalues .exit)) ⌝ }
-    ensures { λ r. ⌜ r ≡ wholeFinite (twoOf (medium l (now (st .entry))) fine coarse) (readFrom (now (eps .entry)) (o .feps)) ⌝ }
+    requires { ⌜ Paired (fullLattice l (now st)) fine coarse ⌝ }
+    requires { ⌜ WholeRoom (twoOf (fullLattice l (now st)) fine coarse) feps ceps p t (now eps) (now starts) (now columns) (now values) (now tstarts) (now tcolumns) (now tvalues) ⌝ }
+    ensures { λ _. ⌜ WholeLeft (twoOf (fullLattice l (now (st .entry))) fine coarse) feps ceps p t (now (eps .entry)) (now (starts .entry)) (now (columns .entry)) (now (values .entry)) (now (tstarts .entry)) (now (tcolumns .entry)) (now (tvalues .entry)) (now (eps .exit)) (now (starts .exit)) (now (columns .exit)) (now (values .exit)) (now (tstarts .exit)) (now (tcolumns .exit)) (now (tvalues .exit)) ⌝ }
+    ensures { λ r. ⌜ r ≡ wholeFinite (twoOf (fullLattice l (now (st .entry))) fine coarse) (readFrom (now (eps .entry)) feps) ⌝ }
 {
     let gf = tables::grid_of(l.grid, fine);
     let gc = tables::grid_of(l.grid, coarse);
-    let a = eps::coarse_eps(l, st, fine, coarse, eps, o.feps, o.ceps);
-    prolongation::columns(l, st, fine, coarse, starts, o.s, columns, o.k);
-    let b = prolongation::weights(l, st, fine, coarse, eps, o.feps, o.ceps, values, o.k);
+    let a = eps::coarse_eps(l, st, fine, coarse, eps, feps, ceps);
+    prolongation::columns(l, st, fine, coarse, starts, p.s, columns, p.k);
+    let b = prolongation::weights(l, st, fine, coarse, eps, feps, ceps, values, p.k);
     let n = grid::unknowns(gf);
     let m = grid::unknowns(gc);
-    transfer::transpose(
+    transpose::transpose(
         starts,
-        o.s,
+        p.s,
         columns,
         values,
-        o.k,
+        p.k,
         n,
         m,
         tstarts,
-        o.ts,
+        t.s,
         tcolumns,
         tvalues,
-        o.tk,
+        t.k,
     );
     a && b
 }

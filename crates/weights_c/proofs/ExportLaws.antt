@@ -1,40 +1,37 @@
 -- What the call leaves, case by case.
 -- Assumes nothing.
-use Prim.Native.Nat.{ℕ, suc, _+_, _-_, _*_, _/_, _%_, _<_, _≤_, _^_}
+use Prim.Native.Nat.{ℕ, suc, _+_, _*_, _/_, _<_, _≤_}
 use native.Mathlib.Omega.{arith}
-use mathlib.Core.Path.{_≡_, refl, sym, ap, _∙_, subst}
+use mathlib.Core.Path.{_≡_, refl, sym, ap, _∙_}
 use mathlib.Core.Bool.{Bool, true, false, _&&_, _||_, cond, true≢false}
-use mathlib.Core.List.{List}
+use mathlib.Core.List.{List, [], _∷_}
 use borrow.Author.Tests.{lt-ltb, le-ltb, ltb-false}
-use lib.Dec.{ltb, eqb}
-use lib.ListN.{length, getD, set}
-use lib.Ieee.{Float}
-use Rattle.numbers.specs.declared.C64.{C64}
-use Rattle.numbers.proofs.Laws.{and-true, and-false}
+use lib.Dec.{ltb}
+use lib.ListN.{length}
+use Rattle.numbers.specs.Lists.{readFrom, laid, laidNumbers}
 use Rattle.lattice.specs.Grid.{unknownsOf, Limits}
-use Rattle.lattice.specs.Lattice.{Medium, tabulate, latticeOf}
-use Rattle.lattice.specs.Check.{verdictOf, isSound, checkStretches}
-use Rattle.lattice.specs.Levels.{depthOf, linesOf, lineNo, lineAt, countOf, threeAt}
-use Rattle.lattice.specs.Line.{packed}
+use Rattle.lattice.specs.Lattice.{FullLattice, latticeOf}
+use Rattle.lattice.specs.Check.{Verdict, accepted, refused, verdictOf, isSound, andThen, checkStretches}
+use Rattle.lattice.specs.Levels.{depthOf, depthVerdict, countOf, linesTo, Joined, threeAt}
 use Rattle.lattice.specs.declared.check.Checked.{Checked}
-use Rattle.lattice.specs.declared.check.Checked.the-variants.{Sound, Cells, Scalar, Length, Entry}
 use Rattle.lattice.specs.declared.grid.Grid3d.{Grid3d}
 use Rattle.lattice.specs.declared.lattice.Lattice.{Lattice}
 use Rattle.lattice.specs.declared.levels.Depth.{Depth}
+use Rattle.lattice.specs.declared.levels.Lines.{Lines}
 use Rattle.lattice.specs.declared.levels.Three.{Three}
 use Rattle.lattice.specs.declared.line.Line.{Line}
-use Rattle.lattice.proofs.CheckLaws.{sound-is}
+use Rattle.lattice.proofs.CheckLaws.{hands-on, goes-on}
+use Rattle.lattice.proofs.Equations.{threeAt-is, levelsOf-is}
 use Rattle.lattice.proofs.GridLaws.{unknowns-most}
-use Rattle.lattice.proofs.TabulateLaws.{tabulate-at-0}
-use Rattle.lattice_c.specs.Exports.{answered}
+use Rattle.lattice.proofs.LevelLaws.{lines-at}
+use Rattle.lattice_c.specs.Exports.{Handed, latticeIn, mediumIn, checkIn, levelsIn, answered, nothing}
 use Rattle.weights.specs.TwoLevels.{TwoLevels, gridWith, twoOf, twoAt}
-use Rattle.weights.specs.Tables.{Paired, readFrom}
-use Rattle.weights.specs.Lists.{laidNumbers}
+use Rattle.weights.specs.Tables.{Paired}
 use Rattle.weights.specs.Whole.{epsOf, fineEdges, coarseEdges, weightsIn, WholeRoom, WholeLeft, wholeFinite}
-use Rattle.weights.specs.declared.whole.Offsets.{Offsets}
+use Rattle.numbers.specs.declared.terms.Part.{Part}
 use Rattle.weights.proofs.TwoLevelLaws.{fine-grid, coarse-grid}
 use Rattle.weights.proofs.PairLaws.{paired-at, two-at}
-use Rattle.weights_c.specs.Exports.{Lent, Left, partShort, shortBy, shortOf, laidBy, doneAt, transferLeft, levelLeft, checkedLeft, exportLeft, Leaves, nothing, threeFrom}
+use Rattle.weights_c.specs.Exports.{Lent, partShort, shortBy, shortOf, laidBy, doneAt, transferLeft, levelLeft, exportLeft, Leaves, threeFrom}
 
 -- ---- room
 
@@ -101,7 +98,7 @@ all-long n m w eps starts columns values tstarts tcolumns tvalues e =
 
 -- ---- one transfer
 
-module _ {l : Medium} {fine coarse : Three} (d : Paired l fine coarse) where
+module _ {l : FullLattice} {fine coarse : Three} (d : Paired l fine coarse) where
   abbrev two : TwoLevels
   two = twoOf l fine coarse
 
@@ -114,9 +111,9 @@ module _ {l : Medium} {fine coarse : Three} (d : Paired l fine coarse) where
   pub few : {n m : ℕ} → n ≡ fineEdges two → m ≡ coarseEdges two → (n ≤ 12288) × (m ≤ 12288)
   few en em = (omega (arith, en, unknowns-most (d .fine-limits)), omega (arith, em, unknowns-most (d .coarse-limits)))
 
-  -- the offsets of the call: everything from the beginning, the coarse permittivities behind the fine ones
-  abbrev pub offsets : ℕ → Offsets
-  offsets n = record { feps = 0; ceps = n; s = 0; k = 0; ts = 0; tk = 0 }
+  -- everything is laid from the beginning, the coarse permittivities behind the fine ones
+  abbrev first : Part
+  first = record { s = 0; k = 0 }
 
   module _ {n m w s : ℕ} (ls : Lent) (en : n ≡ fineEdges two) (em : m ≡ coarseEdges two) (ew : w ≡ weightsIn two)
       (es : s ≡ shortBy n m w (length (ls .eps)) (length (ls .starts)) (length (ls .columns)) (length (ls .values)) (length (ls .tstarts)) (length (ls .tcolumns)) (length (ls .tvalues)))
@@ -126,17 +123,17 @@ module _ {l : Medium} {fine coarse : Three} (d : Paired l fine coarse) where
       short-is = rw (en, em, ew) at es
 
       -- a list is too short
-      pub left-short : (level : ℕ) {out out′ : List ℕ} → 0 < s → out′ ≡ set (set out 0 6) 1 s → Leaves (transferLeft two level ls) out out′ ls
+      pub left-short : (level : ℕ) {out out′ : List ℕ} → 0 < s → out′ ≡ laid out 0 (6 ∷ (s ∷ [])) → Leaves (transferLeft two level ls) out out′ ls
       unfolding transferLeft
       left-short level {out} {out′} h e =
           let t : ltb 0 (shortOf two ls) ≡ true = lt-ltb 0 (shortOf two ls) (omega (arith, h, short-is)) in
-          rw t (record { answer-left = e ∙ ap (λ (k : ℕ). set (set out 0 6) 1 k) short-is; lists-left = refl })
+          rw t (record { answer-left = e ∙ ap (λ (k : ℕ). laid out 0 (6 ∷ (k ∷ []))) short-is; lists-left = refl })
 
       module _ (h : s ≤ 0) where
         none-short : shortOf two ls ≡ 0
         none-short = omega (arith, h, short-is)
 
-        pub room-of : WholeRoom two (offsets n) (ls .eps) (ls .starts) (ls .columns) (ls .values) (ls .tstarts) (ls .tcolumns) (ls .tvalues)
+        pub room-of : WholeRoom two 0 n first first (ls .eps) (ls .starts) (ls .columns) (ls .values) (ls .tstarts) (ls .tcolumns) (ls .tvalues)
         unfolding shortOf
         room-of =
             let a =
@@ -161,7 +158,7 @@ module _ {l : Medium} {fine coarse : Three} (d : Paired l fine coarse) where
 
         -- the transfer stands in the lists
         module _ (ls′ : Lent) {r : Bool}
-            (left : WholeLeft two (offsets n) (ls .eps) (ls .starts) (ls .columns) (ls .values) (ls .tstarts) (ls .tcolumns) (ls .tvalues)
+            (left : WholeLeft two 0 n first first (ls .eps) (ls .starts) (ls .columns) (ls .values) (ls .tstarts) (ls .tcolumns) (ls .tvalues)
             (ls′ .eps) (ls′ .starts) (ls′ .columns) (ls′ .values) (ls′ .tstarts) (ls′ .tcolumns) (ls′ .tvalues))
             (er : r ≡ wholeFinite two (readFrom (ls .eps) 0)) where
           lists-are : ls′ ≡ laidBy two (readFrom (ls .eps) 0) ls
@@ -183,45 +180,51 @@ module _ {l : Medium} {fine coarse : Three} (d : Paired l fine coarse) where
           passes : ltb 0 (shortOf two ls) ≡ false
           passes = le-ltb 0 (shortOf two ls) (omega (arith, none-short))
 
-          pub left-done : (level : ℕ) {out out′ : List ℕ} → r ≡ true → out′ ≡ set (set out 0 0) 1 w → Leaves (transferLeft two level ls) out out′ ls′
+          pub left-done : (level : ℕ) {out out′ : List ℕ} → r ≡ true → out′ ≡ laid out 0 (0 ∷ (w ∷ [])) → Leaves (transferLeft two level ls) out out′ ls′
           unfolding transferLeft doneAt
-          left-done level {out} {out′} t e = rw (passes, sym er ∙ t) (record { answer-left = e ∙ ap (λ (k : ℕ). set (set out 0 0) 1 k) ew; lists-left = lists-are })
+          left-done level {out} {out′} t e = rw (passes, sym er ∙ t) (record { answer-left = e ∙ ap (λ (k : ℕ). laid out 0 (0 ∷ (k ∷ []))) ew; lists-left = lists-are })
 
-          pub left-no-number : (level : ℕ) {out out′ : List ℕ} → r ≡ false → out′ ≡ set (set out 0 7) 1 (level + 1) → Leaves (transferLeft two level ls) out out′ ls′
+          pub left-no-number : (level : ℕ) {out out′ : List ℕ} → r ≡ false → out′ ≡ laid out 0 (7 ∷ ((level + 1) ∷ [])) → Leaves (transferLeft two level ls) out out′ ls′
           unfolding transferLeft doneAt
           left-no-number level t e = rw (passes, sym er ∙ t) (record { answer-left = e; lists-left = lists-are })
 
 -- ---- the levels
 
 -- the lines of a level that the lattice has
-three-at : (l : Medium) (n L : ℕ) → depthOf l 0 ≡ Depth.Levels n → L < n → L < 12 → (q : ℕ) → q ≡ 3 * L → threeFrom (linesOf l 0) q ≡ threeAt l L
-unfolding threeFrom linesOf threeAt lineNo
-three-at l n L e h b q o = λ i. record { x = found 0 q (omega arith) (omega arith) i; y = found 1 (q + 1) (omega arith) (omega arith) i; z = found 2 (q + 2) (omega arith) (omega arith) i }
-  where
-    found : (a k : ℕ) → a < 3 → k ≡ 3 * L + a → getD (tabulate (lineNo l (countOf (depthOf l 0))) 36 0) k nothing ≡ packed (lineAt l a L)
-    found a k p r =
-        let u : k / 3 ≡ L = omega arith in
-        let v : k % 3 ≡ a = omega arith in
-        tabulate-at-0 (lineNo l (countOf (depthOf l 0))) 36 k nothing (omega arith)
-        ∙ rw (u, v, e, lt-ltb L n h)
+three-at : (l : FullLattice) (n L : ℕ) → L < n → L < 12 → (q : ℕ) → q ≡ 3 * L → threeFrom (linesTo l n) q ≡ threeAt l L
+unfolding threeFrom
+three-at l n L h b q o =
+    rw (threeAt-is l L)
+    (λ i.
+    record {
+      x = lines-at l n L 0 q nothing h b (omega arith) (omega arith) i;
+      y = lines-at l n L 1 (q + 1) nothing h b (omega arith) (omega arith) i;
+      z = lines-at l n L 2 (q + 2) nothing h b (omega arith) (omega arith) i;
+    })
 
-module _ (l : Medium) (level : ℕ) {n : ℕ} {lines : List Line} (limits : Limits (l .grid)) (e : depthOf l 0 ≡ Depth.Levels n) (g : lines ≡ linesOf l 0)
+module _ (l : FullLattice) (level : ℕ) {n : ℕ} (f : Lines) (limits : Limits (l .grid)) (j : Joined l 0 f) (e : f .depth ≡ Depth.Levels n)
     (b : level < 11) (h : level + 1 < n) where
-  lower : {t : Three} {q : ℕ} → t ≡ threeFrom lines q → q ≡ 3 * level → t ≡ threeAt l level
-  lower {t} {q} p o = p ∙ ap (λ (ls : List Line). threeFrom ls q) g ∙ three-at l n level e (omega arith) (omega arith) q o
+  depth-is : depthOf l 0 ≡ accepted n
+  depth-is = sym (j .depth-is) ∙ ap depthVerdict e
 
-  upper : {t : Three} {q : ℕ} → t ≡ threeFrom lines q → q ≡ 3 * level + 3 → t ≡ threeAt l (suc level)
-  upper {t} {q} p o = p ∙ ap (λ (ls : List Line). threeFrom ls q) g ∙ three-at l n (suc level) e (omega arith) (omega arith) q (omega arith)
+  lines-are : f .lines ≡ linesTo l n
+  lines-are = j .lines-are ∙ ap (λ w. linesTo l (countOf w)) depth-is
 
-  pub level-paired : {fine coarse : Three} {q r : ℕ} → fine ≡ threeFrom lines q → q ≡ 3 * level → coarse ≡ threeFrom lines r → r ≡ 3 * level + 3 → Paired l fine coarse
+  lower : {t : Three} {q : ℕ} → t ≡ threeFrom (f .lines) q → q ≡ 3 * level → t ≡ threeAt l level
+  lower {t} {q} p o = p ∙ ap (λ (ls : List Line). threeFrom ls q) lines-are ∙ three-at l n level (omega arith) (omega arith) q o
+
+  upper : {t : Three} {q : ℕ} → t ≡ threeFrom (f .lines) q → q ≡ 3 * level + 3 → t ≡ threeAt l (suc level)
+  upper {t} {q} p o = p ∙ ap (λ (ls : List Line). threeFrom ls q) lines-are ∙ three-at l n (suc level) (omega arith) (omega arith) q (omega arith)
+
+  pub level-paired : {fine coarse : Three} {q r : ℕ} → fine ≡ threeFrom (f .lines) q → q ≡ 3 * level → coarse ≡ threeFrom (f .lines) r → r ≡ 3 * level + 3 → Paired l fine coarse
   level-paired x p y o = rw (lower x p, upper y o) (paired-at l level limits)
 
-  pub level-left : {fine coarse : Three} {q r : ℕ} (ls : Lent) {ls′ : Lent} {out out′ : List ℕ} → fine ≡ threeFrom lines q → q ≡ 3 * level → coarse ≡ threeFrom lines r
+  pub level-left : {fine coarse : Three} {q r : ℕ} (ls : Lent) {ls′ : Lent} {out out′ : List ℕ} → fine ≡ threeFrom (f .lines) q → q ≡ 3 * level → coarse ≡ threeFrom (f .lines) r
       → r ≡ 3 * level + 3 → Leaves (transferLeft (twoOf l fine coarse) level ls) out out′ ls′ → Leaves (levelLeft l level ls (depthOf l 0)) out out′ ls′
   level-left {fine} {coarse} {q} {r} ls {ls′} {out} {out′} x p y o w =
       let t : twoOf l fine coarse ≡ twoAt l level = (λ i. twoOf l (lower x p i) (upper y o i)) ∙ two-at l limits level in
       let v : Leaves (transferLeft (twoAt l level) level ls) out out′ ls′ = rw t at w in
-      rw (e, lt-ltb level 11 b, lt-ltb (level + 1) n h) v
+      rw (depth-is, lt-ltb level 11 b, lt-ltb (level + 1) n h) v
 
 -- there is no such transfer
 module _ (level n : ℕ) where
@@ -235,42 +238,42 @@ module _ (level n : ℕ) where
       go true b e = e
       go false b e = refl
 
-pub level-none : (l : Medium) (level : ℕ) {n : ℕ} {ls : Lent} {out out′ : List ℕ} → depthOf l 0 ≡ Depth.Levels n → (ltb level 11 && ltb (level + 1) n) ≡ false
-    → out′ ≡ set (set out 0 0) 1 0 → Leaves (levelLeft l level ls (depthOf l 0)) out out′ ls
-level-none l level e h o = rw (e, h) (record { answer-left = o; lists-left = refl })
+module _ (l : FullLattice) (level : ℕ) (f : Lines) (j : Joined l 0 f) {ls : Lent} {out out′ : List ℕ} where
+  pub level-none : {n : ℕ} → f .depth ≡ Depth.Levels n → (ltb level 11 && ltb (level + 1) n) ≡ false
+      → out′ ≡ laid out 0 (0 ∷ (0 ∷ [])) → Leaves (levelLeft l level ls (depthOf l 0)) out out′ ls
+  level-none e h o = rw (sym (j .depth-is) ∙ ap depthVerdict e, h) (record { answer-left = o; lists-left = refl })
 
-pub level-many : (l : Medium) (level : ℕ) {ls : Lent} {out out′ : List ℕ} → depthOf l 0 ≡ Depth.TooMany
-    → out′ ≡ set (set out 0 5) 1 12 → Leaves (levelLeft l level ls (depthOf l 0)) out out′ ls
-level-many l level e o = rw e (record { answer-left = o; lists-left = refl })
+  pub level-many : f .depth ≡ Depth.TooMany → out′ ≡ laid out 0 (5 ∷ (12 ∷ [])) → Leaves (levelLeft l level ls (depthOf l 0)) out out′ ls
+  level-many e o = rw (sym (j .depth-is) ∙ ap depthVerdict e) (record { answer-left = o; lists-left = refl })
 
 -- ---- the input
 
--- what the check refuses is answered, and the lists stay
-pub refused-left : (c : Checked) (l : Medium) (level : ℕ) {ls : Lent} {out out′ : List ℕ} → isSound c ≡ false → out′ ≡ answered (verdictOf c) 0 out
-    → Leaves (checkedLeft c l level ls) out out′ ls
-refused-left Sound l level h e = absurd (true≢false h)
-refused-left (Cells place) l level h e = record { answer-left = e; lists-left = refl }
-refused-left (Scalar place) l level h e = record { answer-left = e; lists-left = refl }
-refused-left (Length place) l level h e = record { answer-left = e; lists-left = refl }
-refused-left (Entry place) l level h e = record { answer-left = e; lists-left = refl }
+-- what is refused is answered, and the lists stay
+refused-left : (w : Verdict) (l : FullLattice) (level : ℕ) {ls : Lent} {out out′ : List ℕ} → isSound w ≡ false → out′ ≡ answered w out
+    → Leaves (levelLeft l level ls w) out out′ ls
+refused-left (accepted n) l level h e = absurd (true≢false h)
+refused-left (refused number place) l level h e = record { answer-left = e; lists-left = refl }
 
-pub sound-left : {c : Checked} (l : Medium) {m : Medium} (level : ℕ) (ls : Lent) {ls′ : Lent} {out out′ : List ℕ} → c ≡ Sound → m ≡ l
-    → Leaves (levelLeft m level ls (depthOf m 0)) out out′ ls′ → Leaves (checkedLeft c l level ls) out out′ ls′
-sound-left {c} l {m} level ls {ls′} {out} {out′} e f w =
-    let v : Leaves (levelLeft l level ls (depthOf l 0)) out out′ ls′ = rw f at w in
-    rw e v
+module _ (h : Handed) {v : Lattice} (same : v ≡ latticeIn h) (level : ℕ) (ls : Lent) (a : Checked) {r : Bool}
+    (e : verdictOf a ≡ checkStretches v (h .xn) (h .xh) (h .yn) (h .yh) (h .zn) (h .zh)) (p : r ≡ isSound (verdictOf a)) where
+  checked : verdictOf a ≡ checkIn h
+  checked = rw (← same) e
 
-module _ (v : Lattice) (xn xh yn yh zn zh : List Float) (level : ℕ) (ls : Lent) {a : Checked} {r : Bool}
-    (e : a ≡ checkStretches v xn xh yn yh zn zh) (p : r ≡ isSound a) where
-  pub export-refused : {out out′ : List ℕ} → r ≡ false → out′ ≡ answered (verdictOf a) 0 out → Leaves (exportLeft v xn xh yn yh zn zh level ls) out out′ ls
+  levels-are : levelsIn h 0 ≡ andThen (checkIn h) (depthOf (mediumIn h) 0)
+  levels-are = levelsOf-is (latticeIn h) (h .xn) (h .xh) (h .yn) (h .yh) (h .zn) (h .zh) 0
+
+  pub export-refused : {out out′ : List ℕ} → r ≡ false → out′ ≡ answered (verdictOf a) out → Leaves (exportLeft h level ls) out out′ ls
   unfolding exportLeft
-  export-refused q o = rw (sym e) (refused-left a (latticeOf v xn xh yn yh zn zh) level (sym p ∙ q) o)
+  export-refused q o =
+      rw (levels-are ∙ hands-on a checked p (depthOf (mediumIn h) 0) q) (refused-left (verdictOf a) (mediumIn h) level (sym p ∙ q) o)
 
-  pub export-done : {m : Medium} {ls′ : Lent} {out out′ : List ℕ} → r ≡ true → m ≡ latticeOf v xn xh yn yh zn zh
-      → Leaves (levelLeft m level ls (depthOf m 0)) out out′ ls′ → Leaves (exportLeft v xn xh yn yh zn zh level ls) out out′ ls′
+  pub export-done : {m : FullLattice} {ls′ : Lent} {out out′ : List ℕ} → r ≡ true → m ≡ latticeOf v (h .xn) (h .xh) (h .yn) (h .yh) (h .zn) (h .zh)
+      → Leaves (levelLeft m level ls (depthOf m 0)) out out′ ls′ → Leaves (exportLeft h level ls) out out′ ls′
   unfolding exportLeft
-  export-done {m} {ls′} q f w =
-      sound-left (latticeOf v xn xh yn yh zn zh) level ls (sym e ∙ sound-is a (sym p ∙ q)) f w
+  export-done {m} {ls′} {out} {out′} q f w =
+      let g : m ≡ mediumIn h = f ∙ ap (λ u. latticeOf u (h .xn) (h .xh) (h .yn) (h .yh) (h .zn) (h .zh)) same in
+      let u : Leaves (levelLeft (mediumIn h) level ls (depthOf (mediumIn h) 0)) out out′ ls′ = rw g at w in
+      rw (levels-are ∙ goes-on a checked p (depthOf (mediumIn h) 0) q) u
 
 -- ---- a part's test
 

@@ -1,29 +1,24 @@
 -- What the function of the static library leaves in the lists that it is lent, in terms of the weights' definitions.
 -- Assumes nothing.
-use Prim.Native.Nat.{ℕ, suc, _+_, _/_}
+use Prim.Native.Nat.{ℕ, _+_, _/_}
 use mathlib.Core.Path.{_≡_}
 use mathlib.Core.Bool.{Bool, _&&_, _||_, cond}
-use mathlib.Core.List.{List, []}
-use lib.Dec.{eqb, ltb}
-use lib.ListN.{length, getD, set}
+use mathlib.Core.List.{List}
+use lib.Dec.{ltb}
+use lib.ListN.{length, getD}
 use lib.Ieee.{Float}
 use Rattle.numbers.specs.declared.C64.{C64}
-use Rattle.lattice.specs.Check.{Verdict, accepted, refused, verdictOf, checkStretches}
-use Rattle.lattice.specs.Lattice.{Medium, latticeOf}
-use Rattle.lattice.specs.Levels.{depthOf}
+use Rattle.numbers.specs.Lists.{rows, laid, laidNumbers, startsOf, readFrom}
+use Rattle.numbers.specs.Terms.{Term, columnsOf, numbersOf}
+use Rattle.numbers.specs.Transpose.{turnedRow}
+use Rattle.lattice.specs.Check.{Verdict, accepted, refused}
+use Rattle.lattice.specs.Lattice.{FullLattice}
 use Rattle.lattice.specs.declared.line.Line.{Line}
 use Rattle.lattice.specs.declared.levels.Three.{Three}
-use Rattle.lattice.specs.Terms.{Term, columnsOf}
-use Rattle.lattice.specs.declared.check.Checked.{Checked}
-use Rattle.lattice.specs.declared.check.Checked.the-variants.{Sound, Cells, Scalar, Length, Entry}
-use Rattle.lattice.specs.declared.lattice.Lattice.{Lattice}
-use Rattle.lattice.specs.declared.levels.Depth.{Depth}
-use Rattle.weights.specs.Lists.{rows, laid, laidNumbers}
+use Rattle.lattice_c.specs.Exports.{Handed, mediumIn, levelsIn, answered, nothing}
 use Rattle.weights.specs.TwoLevels.{TwoLevels, twoAt}
 use Rattle.weights.specs.CoarseEps.{coarseEps}
 use Rattle.weights.specs.Prolongation.{weightColumns, prolongationRow}
-use Rattle.weights.specs.Transfer.{numbersOf, startsOf, turnedRow}
-use Rattle.weights.specs.Tables.{readFrom}
 use Rattle.weights.specs.Whole.{fineEdges, coarseEdges, weightsIn, epsOf, allWeights, wholeFinite}
 
 -- the lists that a transfer is written into
@@ -36,10 +31,13 @@ pub record Lent : Type 0 where
   pub tcolumns : List ℕ
   pub tvalues : List Float
 
--- number and place, and the lists after the call
+abbrev pub lent : List Float → List ℕ → List ℕ → List Float → List ℕ → List ℕ → List Float → Lent
+lent eps starts columns values tstarts tcolumns tvalues =
+    record { eps = eps; starts = starts; columns = columns; values = values; tstarts = tstarts; tcolumns = tcolumns; tvalues = tvalues }
+
+-- the answer, and the lists after the call
 pub record Left : Type 0 where
-  pub number : ℕ
-  pub place : ℕ
+  pub answer : Verdict
   pub lists : Lent
 
 -- a part is too short for n starts and w weights
@@ -74,44 +72,32 @@ laidBy t f ls =
       tvalues = laidNumbers (ls .tvalues) 0 (numbersOf (rows (turnedBy t f) (coarseEdges t)));
     }
 
+-- the count of weights, or 7 at the coarse level
 unfoldable pub doneAt : TwoLevels → ℕ → Lent → Left
 doneAt t level ls =
     record {
-      number = cond (wholeFinite t (readFrom (ls .eps) 0)) 0 7;
-      place = cond (wholeFinite t (readFrom (ls .eps) 0)) (weightsIn t) (level + 1);
+      answer = cond (wholeFinite t (readFrom (ls .eps) 0)) (accepted (weightsIn t)) (refused 7 (level + 1));
       lists = laidBy t (readFrom (ls .eps) 0) ls;
     }
 
+-- 6 at the list that is too short
 unfoldable pub transferLeft : TwoLevels → ℕ → Lent → Left
-transferLeft t level ls = cond (ltb 0 (shortOf t ls)) (record { number = 6; place = shortOf t ls; lists = ls }) (doneAt t level ls)
+transferLeft t level ls = cond (ltb 0 (shortOf t ls)) (record { answer = refused 6 (shortOf t ls); lists = ls }) (doneAt t level ls)
 
-abbrev pub levelLeft : Medium → ℕ → Lent → Depth → Left
-levelLeft l level ls Depth.TooMany = record { number = 5; place = 12; lists = ls }
-levelLeft l level ls (Depth.Levels n) =
-    cond (ltb level 11 && ltb (level + 1) n) (transferLeft (twoAt l level) level ls) (record { number = 0; place = 0; lists = ls })
+-- by what the levels are answered: refused, or so many; 0 where there is no such transfer
+abbrev pub levelLeft : FullLattice → ℕ → Lent → Verdict → Left
+levelLeft l level ls (refused number place) = record { answer = refused number place; lists = ls }
+levelLeft l level ls (accepted n) =
+    cond (ltb level 11 && ltb (level + 1) n) (transferLeft (twoAt l level) level ls) (record { answer = accepted 0; lists = ls })
 
-abbrev pub refusedLeft : Verdict → Lent → Left
-refusedLeft accepted ls = record { number = 0; place = 0; lists = ls }
-refusedLeft (refused number place) ls = record { number = number; place = place; lists = ls }
-
-abbrev pub checkedLeft : Checked → Medium → ℕ → Lent → Left
-checkedLeft Sound l level ls = levelLeft l level ls (depthOf l 0)
-checkedLeft (Cells place) l level ls = refusedLeft (verdictOf (Cells place)) ls
-checkedLeft (Scalar place) l level ls = refusedLeft (verdictOf (Scalar place)) ls
-checkedLeft (Length place) l level ls = refusedLeft (verdictOf (Length place)) ls
-checkedLeft (Entry place) l level ls = refusedLeft (verdictOf (Entry place)) ls
-
-unfoldable pub exportLeft : Lattice → List Float → List Float → List Float → List Float → List Float → List Float → ℕ → Lent → Left
-exportLeft v xn xh yn yh zn zh level ls = checkedLeft (checkStretches v xn xh yn yh zn zh) (latticeOf v xn xh yn yh zn zh) level ls
+unfoldable pub exportLeft : Handed → ℕ → Lent → Left
+exportLeft h level ls = levelLeft (mediumIn h) level ls (levelsIn h 0)
 
 -- what a call leaves is as said
 pub record Leaves (left : Left) (out : List ℕ) (out′ : List ℕ) (lists′ : Lent) : Type 0 where
-  pub answer-left : out′ ≡ set (set out 0 (left .number)) 1 (left .place)
+  pub answer-left : out′ ≡ answered (left .answer) out
   pub lists-left : lists′ ≡ left .lists
 
 -- lines q to q + 2 of a list
-abbrev pub nothing : Line
-nothing = record { cells = 0; ends = [] }
-
 unfoldable pub threeFrom : List Line → ℕ → Three
 threeFrom lines q = record { x = getD lines q nothing; y = getD lines (q + 1) nothing; z = getD lines (q + 2) nothing }

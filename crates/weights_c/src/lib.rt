@@ -5,12 +5,12 @@ ghost use mathlib.Core.Path.{_≡_};
 ghost use Prim.Native.Nat.{_+_, _≤_, _<_};
 ghost use lib.ListN.{length};
 ghost use Rattle.lattice.specs.Grid.{Limits};
-ghost use Rattle.lattice.specs.Lattice.{medium};
+ghost use Rattle.lattice.specs.Lattice.{fullLattice};
 ghost use Rattle.lattice.specs.Levels.{depthOf};
-ghost use Rattle.lattice_c.specs.Exports.{inputOf};
+ghost use Rattle.lattice_c.specs.Exports.{handed};
 ghost use Rattle.weights.specs.TwoLevels.{twoOf};
 ghost use Rattle.weights.specs.Tables.{Paired};
-ghost use Rattle.weights_c.specs.Exports.{partShort, shortBy, threeFrom, transferLeft, levelLeft, exportLeft, Leaves};
+ghost use Rattle.weights_c.specs.Exports.{partShort, shortBy, threeFrom, lent, transferLeft, levelLeft, exportLeft, Leaves};
 use lattice::check;
 use lattice::grid;
 use lattice::lattice::Lattice;
@@ -18,10 +18,10 @@ use lattice::levels;
 use lattice::levels::Depth;
 use lattice::levels::Three;
 use lattice::line::Line;
+use numbers::terms::Part;
 use weights::prolongation;
 use weights::tables;
 use weights::whole;
-use weights::whole::Offsets;
 
 // Whether a part is too short for n starts and w weights.
 fn part_short(n: usize, w: usize, starts: usize, columns: usize, values: usize) -> bool
@@ -74,9 +74,9 @@ fn lay(
     tcolumns: &mut [usize],
     tvalues: &mut [f64],
 )
-    requires { ⌜ Paired (medium l (now st)) fine coarse ⌝ }
+    requires { ⌜ Paired (fullLattice l (now st)) fine coarse ⌝ }
     requires { ⌜ level < 11 ⌝ }
-    ensures { λ _. ⌜ Leaves (transferLeft (twoOf (medium l (now (st .entry))) fine coarse) level (record { eps = now (eps .entry); starts = now (starts .entry); columns = now (columns .entry); values = now (values .entry); tstarts = now (tstarts .entry); tcolumns = now (tcolumns .entry); tvalues = now (tvalues .entry) })) (now (out .entry)) (now (out .exit)) (record { eps = now (eps .exit); starts = now (starts .exit); columns = now (columns .exit); values = now (values .exit); tstarts = now (tstarts .exit); tcolumns = now (tcolumns .exit); tvalues = now (tvalues .exit) }) ⌝ }
+    ensures { λ _. ⌜ Leaves (transferLeft (twoOf (fullLattice l (now (st .entry))) fine coarse) level (lent (now (eps .entry)) (now (starts .entry)) (now (columns .entry)) (now (values .entry)) (now (tstarts .entry)) (now (tcolumns .entry)) (now (tvalues .entry)))) (now (out .entry)) (now (out .exit)) (lent (now (eps .exit)) (now (starts .exit)) (now (columns .exit)) (now (values .exit)) (now (tstarts .exit)) (now (tcolumns .exit)) (now (tvalues .exit))) ⌝ }
 {
     let n = grid::unknowns(tables::grid_of(l.grid, fine));
     let m = grid::unknowns(tables::grid_of(l.grid, coarse));
@@ -97,20 +97,16 @@ fn lay(
         lattice_c::put_two(out, 6, short);
         return;
     }
-    let o = Offsets {
-        feps: 0,
-        ceps: n,
-        s: 0,
-        k: 0,
-        ts: 0,
-        tk: 0,
-    };
+    let first = Part { s: 0, k: 0 };
     if whole::transfer(
         l,
         st,
         fine,
         coarse,
-        o,
+        0,
+        n,
+        first,
+        first,
         eps,
         starts,
         columns,
@@ -151,7 +147,7 @@ fn transfer_at(
     tvalues: &mut [f64],
 )
     requires { ⌜ Limits (l .grid) ⌝ }
-    ensures { λ _. ⌜ Leaves (levelLeft (medium l (now (st .entry))) level (record { eps = now (eps .entry); starts = now (starts .entry); columns = now (columns .entry); values = now (values .entry); tstarts = now (tstarts .entry); tcolumns = now (tcolumns .entry); tvalues = now (tvalues .entry) }) (depthOf (medium l (now (st .entry))) 0)) (now (out .entry)) (now (out .exit)) (record { eps = now (eps .exit); starts = now (starts .exit); columns = now (columns .exit); values = now (values .exit); tstarts = now (tstarts .exit); tcolumns = now (tcolumns .exit); tvalues = now (tvalues .exit) }) ⌝ }
+    ensures { λ _. ⌜ Leaves (levelLeft (fullLattice l (now (st .entry))) level (lent (now (eps .entry)) (now (starts .entry)) (now (columns .entry)) (now (values .entry)) (now (tstarts .entry)) (now (tcolumns .entry)) (now (tvalues .entry))) (depthOf (fullLattice l (now (st .entry))) 0)) (now (out .entry)) (now (out .exit)) (lent (now (eps .exit)) (now (starts .exit)) (now (columns .exit)) (now (values .exit)) (now (tstarts .exit)) (now (tcolumns .exit)) (now (tvalues .exit))) ⌝ }
 {
     let found = levels::join_lines(l, st, 0);
     let depth = found.depth;
@@ -205,12 +201,12 @@ pub extern "C" fn weights_transfer(
     tcolumns: &mut [usize],
     tvalues: &mut [f64],
 )
-    ensures { λ _. ⌜ Leaves (exportLeft (inputOf (now (cells .entry)) (now (scalars .entry))) (now (xn .entry)) (now (xh .entry)) (now (yn .entry)) (now (yh .entry)) (now (zn .entry)) (now (zh .entry)) level (record { eps = now (eps .entry); starts = now (starts .entry); columns = now (columns .entry); values = now (values .entry); tstarts = now (tstarts .entry); tcolumns = now (tcolumns .entry); tvalues = now (tvalues .entry) })) (now (out .entry)) (now (out .exit)) (record { eps = now (eps .exit); starts = now (starts .exit); columns = now (columns .exit); values = now (values .exit); tstarts = now (tstarts .exit); tcolumns = now (tcolumns .exit); tvalues = now (tvalues .exit) }) ⌝ }
+    ensures { λ _. ⌜ Leaves (exportLeft (handed (now (cells .entry)) (now (scalars .entry)) (now (xn .entry)) (now (xh .entry)) (now (yn .entry)) (now (yh .entry)) (now (zn .entry)) (now (zh .entry))) level (lent (now (eps .entry)) (now (starts .entry)) (now (columns .entry)) (now (values .entry)) (now (tstarts .entry)) (now (tcolumns .entry)) (now (tvalues .entry)))) (now (out .entry)) (now (out .exit)) (lent (now (eps .exit)) (now (starts .exit)) (now (columns .exit)) (now (values .exit)) (now (tstarts .exit)) (now (tcolumns .exit)) (now (tvalues .exit))) ⌝ }
 {
     let v = lattice_c::input(cells, scalars);
     let c = check::check_stretches(v, xn, xh, yn, yh, zn, zh);
     if !check::is_sound(c) {
-        lattice_c::answer(c, 0, out);
+        lattice_c::answer(c, out);
         return;
     }
     let st = lattice::lattice::stretches(v, xn, xh, yn, yh, zn, zh);

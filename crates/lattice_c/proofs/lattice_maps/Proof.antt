@@ -1,17 +1,15 @@
 -- `lattice_c::lattice_maps` meets its contract: a sound input gives what the lattice and its maps require.
 -- Assumes nothing.
 use Prim.Native.Nat.{_≤_}
-use mathlib.Core.Path.{_∙_}
 use native.Mathlib.Omega.{arith}
 use borrow.Author.Needs.{needs}
-use borrow.Author.Tests.{not-true, not-false, lt-ltb, le-ltb}
+use borrow.Author.Tests.{not-true, not-false}
 use denote.Ref.{now}
-use Rattle.numbers.proofs.Laws.{and-true, and-false}
 use Rattle.lattice.specs.Grid.{Limits}
 use Rattle.lattice.specs.Lattice.{Lengths}
 use Rattle.lattice.proofs.GridLaws.{n-most}
-use Rattle.lattice.proofs.CheckLaws.{passed, stretches-sound}
-use Rattle.lattice_c.proofs.RowsLaid.{stretches-told, maps-none, maps-all}
+use Rattle.lattice.proofs.CheckLaws.{told, stretches-sound}
+use Rattle.lattice_c.proofs.ExportLaws.{maps-beyond, maps-refused, maps-all}
 use Rattle.lattice_c.proofs.lattice_maps.Statement.{statement}
 use Rattle.lattice_c.proofs.lattice_maps.Tie as tie
 
@@ -21,15 +19,13 @@ fine : (c : tie.Else2)
     Limits g × Lengths g (now (a .xn)) (now (a .yn)) (now (a .zn)) × Lengths g (now (a .xh)) (now (a .yh)) (now (a .zh))
 fine c =
     stretches-sound (c .before .before .before .input .result) _ _ _ _ _ _
-    (passed (c .before .before .check-stretches .ensures) (c .before .is-sound .ensures) (not-false _ (c .if2 .left)))
+    (told (c .before .before .check-stretches .result) (c .before .before .check-stretches .ensures) (c .before .is-sound .ensures) (not-false _ (c .if2 .left)))
 
 most : (c : tie.After-n) → c .n .result ≤ 64
 most c = omega (arith, c .n .ensures, n-most (fine (c .before .before .before .before .before .before .before .before .before .before .before .before .before .before) .0) (c .before .before .before .before .before .before .before .before .before .before .before .before .before .before .before .before .before .before .before .before .before .before .before .before .before .before .before .before .before .args .axis))
 
 returns : tie.Need-returns
-returns c =
-    let e = le-ltb (c .before .before .before .before .before .before .before .before .before .before .before .args .axis) 3 (omega arith) in
-    maps-none (and-false _ _ e ∙ e)
+returns c = maps-beyond (omega arith)
 
 input-requires : tie.Need-input-requires
 input-requires c κs = search needs
@@ -41,10 +37,7 @@ is-sound-requires : tie.Need-is-sound-requires
 is-sound-requires c κs = search needs
 
 returns-2 : tie.Need-returns-2
-returns-2 c =
-    maps-none
-    (and-true _ _ (lt-ltb (c .before .before .before .before .before .before .before .before .before .before .before .before .before .before .before .args .axis) 3 (omega arith))
-    ∙ stretches-told _ _ _ _ _ _ (c .before .before .before .input .ensures) (c .before .before .check-stretches .ensures) (c .before .is-sound .ensures) (not-true _ (c .if2 .taken)))
+returns-2 c = maps-refused _ _ (omega arith) (c .before .before .before .input .ensures) (c .before .before .check-stretches .result) (c .before .before .check-stretches .ensures) (c .before .is-sound .ensures) (not-true _ (c .if2 .taken))
 
 stretches-requires : tie.Need-stretches-requires
 stretches-requires c κs = (fine c .1, fine c .2)
@@ -78,14 +71,8 @@ same-length-2 c = search needs
 
 returns-3 : tie.Need-returns-3
 returns-3 c =
-    maps-all _ _ _ _ _ _ (c .before .before .before .before .before .before .before .before .before .before .before .before .before .before .before .before .before .input .ensures)
-    (and-true _ _ (lt-ltb (c .before .before .before .before .before .before .before .before .before .before .before .before .before .before .before .before .before .before .before .before .before .before .before .before .before .before .before .before .before .args .axis) 3 (omega arith))
-    ∙ stretches-told _ _ _ _ _ _ (c .before .before .before .before .before .before .before .before .before .before .before .before .before .before .before .before .before .input .ensures) (c .before .before .before .before .before .before .before .before .before .before .before .before .before .before .before .before .check-stretches .ensures) (c .before .before .before .before .before .before .before .before .before .before .before .before .before .before .before .is-sound .ensures) (not-false _ (c .before .before .before .before .before .before .before .before .before .before .before .before .before .before .if2 .left)))
-    (c .before .before .before .before .before .before .before .before .before .before .before .before .before .stretches .ensures .1)
-    (c .before .before .before .before .before .before .before .before .before .before .before .new .ensures)
-    (c .before .before .before .before .before .before .before .put-numbers .ensures)
-    (c .before .before .before .put-numbers2 .ensures)
-    (c .n .ensures)
+    maps-all _ _ (omega arith) (c .before .before .before .before .before .before .before .before .before .before .before .before .before .before .before .before .before .input .ensures) (c .before .before .before .before .before .before .before .before .before .before .before .before .before .before .before .before .check-stretches .result) (c .before .before .before .before .before .before .before .before .before .before .before .before .before .before .before .before .check-stretches .ensures) (c .before .before .before .before .before .before .before .before .before .before .before .before .before .before .before .is-sound .ensures) _ _ (not-false _ (c .before .before .before .before .before .before .before .before .before .before .before .before .before .before .if2 .left))
+    (c .before .before .before .before .before .before .before .before .before .before .before .before .before .stretches .ensures .1) (c .before .before .before .before .before .before .before .before .before .before .before .new .ensures) (c .before .before .before .before .before .before .before .put-numbers .ensures) (c .before .before .before .put-numbers2 .ensures) (c .n .ensures)
 
 pub lattice-maps-spec : {M : Type 1} → statement M
 lattice-maps-spec =

@@ -1,20 +1,23 @@
--- `lattice_c::put_lines` meets its contract. The invariant: the lines still to come, laid from here, give the whole.
--- Assumes nothing.
-use Prim.Native.Nat.{_-_}
-use native.Mathlib.Omega.{arith}
 use borrow.Author.Needs.{needs}
-use Rattle.lattice_c.proofs.ListLaws.{Laying, laying-start, laying-turn, laying-end}
+-- `lattice_c::put_lines` meets its contract. The invariant: q of the lines have been laid.
+-- Assumes nothing.
+use Prim.Native.Nat.{_+_, _-_, _*_}
+use mathlib.Core.Path.{_≡_}
+use native.Mathlib.Omega.{arith}
+use lib.ListN.{set}
+use Rattle.numbers.proofs.ListLaws.{laid-same, Laying, laying-start, laying-turn, laying-end}
+use Rattle.lattice_c.specs.Exports.{lineCells, lineEnds}
 use Rattle.lattice_c.proofs.put_lines.Statement.{statement}
 use Rattle.lattice_c.proofs.put_lines.Tie as tie
 
 abbrev Inv-loop : tie.InvT-loop
-Inv-loop counts₀ ends₀ lines q₀ counts ends q = Laying lines counts₀ ends₀ q counts ends
+Inv-loop counts₀ ends₀ lines k₀ q₀ counts ends k q = (k ≡ 65 * q) × Laying set (lineCells lines) 36 0 counts₀ counts q q × Laying set (lineEnds lines) 36 0 ends₀ ends k q
 
 abbrev μ-loop : tie.MeasureT-loop
-μ-loop counts₀ ends₀ lines q₀ counts ends q = 36 - q
+μ-loop counts₀ ends₀ lines k₀ q₀ counts ends k q = 36 - q
 
 loop-holds : tie.Need-loop-holds Inv-loop μ-loop
-loop-holds c = laying-start
+loop-holds c = (omega arith, laying-start, laying-start)
 
 mul-l : tie.Need-mul-l Inv-loop μ-loop
 mul-l c = search needs
@@ -22,14 +25,11 @@ mul-l c = search needs
 array-copy-out-l : tie.Need-array-copy-out-l Inv-loop μ-loop
 array-copy-out-l c = search needs
 
-put-requires : tie.Need-put-requires Inv-loop μ-loop
-put-requires c κs = search needs
-
-mul-put-line : tie.Need-mul-put-line Inv-loop μ-loop
-mul-put-line c = search needs
+push-requires : tie.Need-push-requires Inv-loop μ-loop
+push-requires c κs = search needs
 
 put-line-requires : tie.Need-put-line-requires Inv-loop μ-loop
-put-line-requires c κs = (omega arith, c .before .before .before .before .before .before .before .before .before .before .pre .long _ (c .before .before .before .before .before .before .loop-test .taken) _)
+put-line-requires c κs = omega (arith, c .before .before .before .before .before .before .before .before .loop .inv .0)
 
 add-q : tie.Need-add-q Inv-loop μ-loop
 add-q c = search needs
@@ -38,16 +38,21 @@ loop-less : tie.Need-loop-less Inv-loop μ-loop
 loop-less c = search needs
 
 loop-again : tie.Need-loop-again Inv-loop μ-loop
-loop-again c = laying-turn _ (c .before .before .before .before .before .before .before .before .before .before .before .before .before .pre) (c .before .before .before .before .before .before .before .before .before .before .loop .inv) (c .before .before .before .before .before .before .before .before .before .loop-test .taken) (c .before .before .before .before .before .before .put .ensures) (c .before .before .put-line .ensures)
+loop-again c =
+    let e : c .before .before .before .before .before .before .push .result ≡ c .before .before .before .before .before .before .before .before .before .before .before .loop .q + 1 = omega (arith, c .before .before .before .before .before .before .push .ensures .next) in (
+      omega (arith, c .before .before .before .before .before .before .before .before .before .before .before .loop .inv .0, c .before .before .put-line .ensures .1),
+      rw e at (laying-turn (c .before .before .before .before .before .before .before .before .before .before .before .loop .inv .1) (omega arith) (c .before .before .before .before .before .before .push .ensures)),
+      laying-turn (c .before .before .before .before .before .before .before .before .before .before .before .loop .inv .2) (omega arith) (c .before .before .put-line .ensures .0),
+    )
 
 same-length : tie.Need-same-length Inv-loop μ-loop
-same-length c = search needs
+same-length c = laid-same (c .before .loop .inv .1 .wrote)
 
 same-length-2 : tie.Need-same-length-2 Inv-loop μ-loop
-same-length-2 c = search needs
+same-length-2 c = laid-same (c .before .loop .inv .2 .wrote)
 
 returns : tie.Need-returns Inv-loop μ-loop
-returns c = laying-end (c .before .before .before .before .pre) (c .before .loop .inv) (c .loop-test .left)
+returns c = (laying-end (c .before .loop .inv .1) (omega arith) .list, laying-end (c .before .loop .inv .2) (omega arith) .list)
 
 pub put-lines-spec : {M : Type 1} → statement M
 put-lines-spec =
@@ -58,8 +63,7 @@ put-lines-spec =
     loop-holds
     mul-l
     array-copy-out-l
-    put-requires
-    mul-put-line
+    push-requires
     put-line-requires
     add-q
     loop-less

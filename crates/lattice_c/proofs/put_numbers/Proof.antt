@@ -1,22 +1,24 @@
 -- `lattice_c::put_numbers` meets its contract. The loop's invariant: what is still to come gives what the whole gives.
 -- Assumes nothing.
 use Prim.Native.Nat.{_-_}
-use mathlib.Core.Path.{_≡_}
+use mathlib.Core.Path.{_≡_, refl}
 use native.Mathlib.Omega.{arith}
 use borrow.Author.Needs.{needs}
 use lib.ListN.{length}
-use Rattle.lattice_c.proofs.RowsLaid.{Putting, putting-start, putting-turn, putting-end}
+use Rattle.numbers.specs.Places.{setNumber}
+use Rattle.numbers.proofs.ListLaws.{laid-one, laid-numbers-same}
+use Rattle.numbers.proofs.CopyLaws.{Copying, copying-start, copying-turn, copying-whole}
 use Rattle.lattice_c.proofs.put_numbers.Statement.{statement}
 use Rattle.lattice_c.proofs.put_numbers.Tie as tie
 
 abbrev Inv-loop : tie.InvT-loop
-Inv-loop out₀ xs k₀ out k = (length xs ≡ 129) × Putting xs out₀ out k
+Inv-loop out₀ xs k₀ out k = (length xs ≡ 129) × Copying setNumber xs 129 0 out₀ out k k
 
 abbrev μ-loop : tie.MeasureT-loop
 μ-loop out₀ xs k₀ out k = 129 - k
 
 loop-holds : tie.Need-loop-holds Inv-loop μ-loop
-loop-holds c = (c .before .good .0 .1 .0 .1, putting-start)
+loop-holds c = (c .before .good .0 .1 .0 .1, copying-start)
 
 mul-put : tie.Need-mul-put Inv-loop μ-loop
 mul-put c = search needs
@@ -34,13 +36,13 @@ loop-less : tie.Need-loop-less Inv-loop μ-loop
 loop-less c = search needs
 
 loop-again : tie.Need-loop-again Inv-loop μ-loop
-loop-again c = (c .before .before .before .before .before .before .loop .inv .0, putting-turn _ (c .before .before .before .before .before .before .loop .inv .1) (omega arith) (c .before .before .put .ensures))
+loop-again c = (c .before .before .before .before .before .before .loop .inv .0, copying-turn _ (c .before .before .before .before .before .before .loop .inv .1) (omega arith) (omega arith) (laid-one (c .before .before .put .ensures) refl))
 
 same-length : tie.Need-same-length Inv-loop μ-loop
-same-length c = c .before .loop .inv .1 .long
+same-length c = laid-numbers-same (c .before .loop .inv .1 .wrote)
 
 returns : tie.Need-returns Inv-loop μ-loop
-returns c = putting-end (c .before .loop .inv .1) (omega arith)
+returns c = copying-whole (c .before .loop .inv .1) (omega arith) .list
 
 pub put-numbers-spec : {M : Type 1} → statement M
 put-numbers-spec =

@@ -2,9 +2,9 @@
 -- Assumes nothing.
 use native.Mathlib.Omega.{arith}
 use borrow.Author.Needs.{needs}
-use Rattle.lattice.proofs.TermLaws.{wrote-most}
+use Rattle.numbers.proofs.TermLaws.{wrote-most}
 use Rattle.lattice.proofs.RowLaws.{row-most}
-use Rattle.lattice_c.proofs.RowsLaid.{wrote-behind}
+use Rattle.numbers.proofs.CopyLaws.{wrote-part}
 use Rattle.lattice_c.proofs.put_row.Statement.{statement}
 use Rattle.lattice_c.proofs.put_row.Tie as tie
 
@@ -55,7 +55,7 @@ same-length-2 : tie.Need-same-length-2
 same-length-2 c = search needs
 
 returns : tie.Need-returns
-returns c = wrote-behind (c .before .before .before .before .before .before .before .before .lesser .ensures) (c .before .before .before .before .before .before .before .lesser2 .ensures) (c .before .before .before .before .row-into .ensures)
+returns c = wrote-part (c .before .before .before .before .before .before .before .before .lesser .ensures) (c .before .before .before .before .before .before .before .lesser2 .ensures) (c .before .before .before .before .row-into .ensures)
 
 pub put-row-spec : {M : Type 1} → statement M
 put-row-spec =

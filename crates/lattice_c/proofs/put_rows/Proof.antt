@@ -1,17 +1,22 @@
--- `lattice_c::put_rows` meets its contract. The loop's invariant: what is still to come gives what the whole gives.
+use borrow.Author.Needs.{needs}
+-- `lattice_c::put_rows` meets its contract. The invariant: r of the rows have been laid, each from its start on.
 -- Assumes nothing.
 use Prim.Native.Nat.{_-_}
+use mathlib.Core.Path.{_∙_}
 use native.Mathlib.Omega.{arith}
-use borrow.Author.Needs.{needs}
 use Rattle.numbers.specs.Places.{numberAt}
-use Rattle.lattice.specs.Lattice.{medium}
+use Rattle.numbers.proofs.ListLaws.{laid-same}
+use Rattle.numbers.proofs.TermLaws.{wrote-columns, wrote-numbers}
+use Rattle.lattice.specs.Lattice.{fullLattice}
+use Rattle.lattice.specs.Rows.{rowInto}
 use Rattle.lattice.proofs.GridLaws.{unknowns-most}
-use Rattle.lattice_c.proofs.RowsLaid.{Filling, filling-start, filling-turn, filling-end}
+use Rattle.lattice.proofs.RowLaws.{row-most}
+use Rattle.numbers.proofs.CopyLaws.{Filling, filling-start, filling-turn, filling-most, filling-end}
 use Rattle.lattice_c.proofs.put_rows.Statement.{statement}
 use Rattle.lattice_c.proofs.put_rows.Tie as tie
 
 abbrev Inv-loop : tie.InvT-loop
-Inv-loop l st n eps starts₀ columns₀ values₀ from₀ r₀ starts columns values from r = Filling (medium l st) (numberAt eps) n starts₀ columns₀ values₀ starts columns values from r
+Inv-loop l st n eps starts₀ columns₀ values₀ from₀ r₀ starts columns values from r = Filling (rowInto (fullLattice l st) (numberAt eps)) n starts₀ columns₀ values₀ starts columns values from r
 
 abbrev μ-loop : tie.MeasureT-loop
 μ-loop l st n eps starts₀ columns₀ values₀ from₀ r₀ starts columns values from r = n - r
@@ -19,13 +24,14 @@ abbrev μ-loop : tie.MeasureT-loop
 loop-holds : tie.Need-loop-holds Inv-loop μ-loop
 loop-holds c = filling-start
 
-put-requires : tie.Need-put-requires Inv-loop μ-loop
-put-requires c κs = search needs
+push-requires : tie.Need-push-requires Inv-loop μ-loop
+push-requires c κs = omega (arith, c .before .before .loop .inv .high, unknowns-most (c .before .before .before .before .before .before .before .before .pre .0))
 
 put-row-requires : tie.Need-put-row-requires Inv-loop μ-loop
 put-row-requires c κs =
     let limits = c .before .before .before .before .before .before .before .before .before .before .before .before .before .pre .0 in
-    (limits, (omega arith, (c .before .before .before .before .before .before .before .before .before .before .before .before .before .pre .1 .1, omega (arith, unknowns-most limits))))
+    let most = filling-most 29 (c .before .before .before .before .before .before .before .loop .inv) (λ q h. row-most _ _ q) in
+    (limits, (omega arith, (c .before .before .before .before .before .before .before .before .before .before .before .before .before .pre .1 .1, omega (arith, unknowns-most limits, most))))
 
 add-r : tie.Need-add-r Inv-loop μ-loop
 add-r c = search needs
@@ -34,22 +40,24 @@ loop-less : tie.Need-loop-less Inv-loop μ-loop
 loop-less c = search needs
 
 loop-again : tie.Need-loop-again Inv-loop μ-loop
-loop-again c = filling-turn (c .before .before .before .before .before .before .before .before .before .before .before .before .loop .inv) (omega arith) (c .before .before .before .before .before .before .before .before .before .put .ensures) (c .before .before .before .before .put-row .ensures)
+loop-again c = filling-turn (c .before .before .before .before .before .before .before .before .before .before .before .before .loop .inv) (omega arith) (c .before .before .before .before .before .before .before .before .before .push .ensures) (c .before .before .before .before .put-row .ensures)
 
-put-requires-2 : tie.Need-put-requires-2 Inv-loop μ-loop
-put-requires-2 c κs = search needs
+push-requires-2 : tie.Need-push-requires-2 Inv-loop μ-loop
+push-requires-2 c κs = omega (arith, unknowns-most (c .before .before .before .before .before .before .before .before .pre .0))
 
 same-length : tie.Need-same-length Inv-loop μ-loop
-same-length c = search needs
+same-length c = laid-same (c .before .before .push2 .ensures) ∙ laid-same (c .before .before .before .before .before .loop .inv .starts)
 
 same-length-2 : tie.Need-same-length-2 Inv-loop μ-loop
-same-length-2 c = c .before .before .before .before .before .loop .inv .columns-long
+same-length-2 c = wrote-columns (c .before .before .before .before .before .loop .inv .wrote)
 
 same-length-3 : tie.Need-same-length-3 Inv-loop μ-loop
-same-length-3 c = c .before .before .before .before .before .loop .inv .numbers-long
+same-length-3 c = wrote-numbers (c .before .before .before .before .before .loop .inv .wrote)
 
 returns : tie.Need-returns Inv-loop μ-loop
-returns c = filling-end (c .before .before .before .before .before .loop .inv) (omega arith) (c .before .before .put2 .ensures)
+returns c =
+    let w = filling-end (c .before .before .before .before .before .loop .inv) (omega arith) (c .before .before .push2 .ensures) in
+    record { laid-rows = w .0; count = w .1 }
 
 pub put-rows-spec : {M : Type 1} → statement M
 put-rows-spec =
@@ -58,12 +66,12 @@ put-rows-spec =
     Inv-loop
     μ-loop
     loop-holds
-    put-requires
+    push-requires
     put-row-requires
     add-r
     loop-less
     loop-again
-    put-requires-2
+    push-requires-2
     same-length
     same-length-2
     same-length-3

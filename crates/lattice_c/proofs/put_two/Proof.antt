@@ -1,20 +1,19 @@
--- `lattice_c::put_two` meets its contract.
--- Assumes nothing.
+use Rattle.numbers.proofs.ListLaws.{laid-append}
 use borrow.Author.Needs.{needs}
 use Rattle.lattice_c.proofs.put_two.Statement.{statement}
 use Rattle.lattice_c.proofs.put_two.Tie as tie
 
-put-requires : tie.Need-put-requires
-put-requires c κs = search needs
+push-requires : tie.Need-push-requires
+push-requires c κs = search needs
 
-put-requires-2 : tie.Need-put-requires-2
-put-requires-2 c κs = search needs
+push-requires-2 : tie.Need-push-requires-2
+push-requires-2 c κs = search needs
 
 same-length : tie.Need-same-length
 same-length c = search needs
 
 returns : tie.Need-returns
-returns c = rw (c .before .before .put2 .ensures, c .before .before .before .before .before .before .put .ensures)
+returns c = laid-append (c .before .before .before .before .before .before .push .ensures) (c .before .before .push2 .ensures) .list
 
 pub put-two-spec : {M : Type 1} → statement M
-put-two-spec = tie.close (tie.spec put-requires put-requires-2 same-length returns)
+put-two-spec = tie.close (tie.spec push-requires push-requires-2 same-length returns)

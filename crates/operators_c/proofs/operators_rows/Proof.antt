@@ -2,16 +2,15 @@
 -- Assumes nothing.
 use Prim.Native.Nat.{_*_}
 use native.Mathlib.Omega.{arith}
-use mathlib.Core.Path.{_≡_}
+use mathlib.Core.Path.{_≡_, refl}
 use borrow.Author.Needs.{needs}
 use borrow.Author.Tests.{not-true, not-false}
 use denote.Ref.{now}
 use lib.ListN.{length}
 use Rattle.lattice.specs.Grid.{unknownsOf, Limits}
 use Rattle.lattice.specs.Lattice.{Lengths}
-use Rattle.lattice.proofs.CheckLaws.{passed}
-use Rattle.lattice_c.proofs.RowsLaid.{all-told, all-sound}
-use Rattle.operators_c.proofs.ExportLaws.{rows-none, rows-all}
+use Rattle.lattice.proofs.CheckLaws.{told, all-sound}
+use Rattle.lattice_c.proofs.ExportLaws.{rows-refused, rows-all}
 use Rattle.operators_c.proofs.operators_rows.Statement.{statement}
 use Rattle.operators_c.proofs.operators_rows.Tie as tie
 
@@ -24,7 +23,7 @@ fine : (c : tie.Else1)
     × (length (now (a .eps)) ≡ 2 * unknownsOf g)
 fine c =
     all-sound (c .before .before .before .input .result) _ _ _ _ _ _ _
-    (passed (c .before .before .check .ensures) (c .before .is-sound .ensures) (not-false _ (c .if1 .left)))
+    (told (c .before .before .check .result) (c .before .before .check .ensures) (c .before .is-sound .ensures) (not-false _ (c .if1 .left)))
 
 input-requires : tie.Need-input-requires
 input-requires c κs = search needs
@@ -36,7 +35,7 @@ is-sound-requires : tie.Need-is-sound-requires
 is-sound-requires c κs = search needs
 
 returns : tie.Need-returns
-returns c = rows-none (all-told _ _ _ _ _ _ (c .before .before .before .input .ensures) _ (c .before .before .check .ensures) (c .before .is-sound .ensures) (not-true _ (c .if1 .taken)))
+returns c = rows-refused _ _ _ (c .before .before .before .input .ensures) (c .before .before .check .result) (c .before .before .check .ensures) (c .before .is-sound .ensures) (not-true _ (c .if1 .taken))
 
 stretches-requires : tie.Need-stretches-requires
 stretches-requires c κs = (fine c .1, fine c .2)
@@ -60,10 +59,8 @@ same-length-3 c = search needs
 
 returns-2 : tie.Need-returns-2
 returns-2 c =
-    rows-all _ _ _ _ _ _ _ (c .before .before .before .before .before .before .before .before .before .before .before .before .before .before .before .input .ensures)
-    (all-told _ _ _ _ _ _ (c .before .before .before .before .before .before .before .before .before .before .before .before .before .before .before .input .ensures) _ (c .before .before .before .before .before .before .before .before .before .before .before .before .before .before .check .ensures) (c .before .before .before .before .before .before .before .before .before .before .before .before .before .is-sound .ensures) (not-false _ (c .before .before .before .before .before .before .before .before .before .before .before .before .if1 .left)))
-    (c .before .before .before .before .before .before .before .before .before .before .before .stretches .ensures .1)
-    (c .before .before .before .before .before .before .lay .ensures)
+    rows-all _ _ _ (c .before .before .before .before .before .before .before .before .before .before .before .before .before .before .before .input .ensures) (c .before .before .before .before .before .before .before .before .before .before .before .before .before .before .check .result) (c .before .before .before .before .before .before .before .before .before .before .before .before .before .before .check .ensures) (c .before .before .before .before .before .before .before .before .before .before .before .before .before .is-sound .ensures) (not-false _ (c .before .before .before .before .before .before .before .before .before .before .before .before .if1 .left))
+    (c .before .before .before .before .before .before .before .before .before .before .before .stretches .ensures .1) refl (c .before .before .before .before .before .before .lay .ensures)
 
 pub operators-rows-spec : {M : Type 1} → statement M
 operators-rows-spec =

@@ -6,12 +6,6 @@ use Rattle.weights_c.proofs.ExportLaws.{fine-edges, coarse-edges, few, 
 use borrow.Author.Needs.{needs}
 use Rattle.weights_c.proofs.lay.Statement.{statement}
 use Rattle.weights_c.proofs.lay.Tie as tie
-use Rattle.lattice.proofs.grid.unknowns.Reads as unknowns-reads
-use Rattle.lattice_c.proofs.put_two.Reads as put-two-reads
-use Rattle.weights.proofs.prolongation.count.Reads as count-reads
-use Rattle.weights.proofs.tables.grid_of.Reads as grid-of-reads
-use Rattle.weights.proofs.whole.transfer.Reads as transfer-reads
-use Rattle.weights_c.proofs.short_list.Reads as short-list-reads
 
 grid-of-requires : tie.Need-grid-of-requires
 grid-of-requires c κs = search needs

@@ -5,7 +5,6 @@ use Rattle.weights_c.proofs.ExportLaws.{short-eps, short-forward, short
 use borrow.Author.Needs.{needs}
 use Rattle.weights_c.proofs.short_list.Statement.{statement}
 use Rattle.weights_c.proofs.short_list.Tie as tie
-use Rattle.weights_c.proofs.part_short.Reads as part-short-reads
 
 add-if1 : tie.Need-add-if1
 add-if1 c = search needs

@@ -5,15 +5,10 @@ use native.Mathlib.Omega.{arith}
 use borrow.Author.Tests.{ltb-true}
 use mathlib.Core.Logic.{⊎-elim}
 use mathlib.Core.Path.{refl, sym, ap, _∙_}
-use Rattle.lattice.specs.declared.levels.Lines.{Lines}
 use Rattle.weights_c.proofs.ExportLaws.{level-paired, level-left, no-level, no-next, level-none, level-many}
 use borrow.Author.Needs.{needs}
 use Rattle.weights_c.proofs.transfer_at.Statement.{statement}
 use Rattle.weights_c.proofs.transfer_at.Tie as tie
-use Rattle.lattice.proofs.levels.join_lines.Reads as join-lines-reads
-use Rattle.lattice_c.proofs.put_two.Reads as put-two-reads
-use Rattle.weights_c.proofs.lay.Reads as lay-reads
-use Rattle.weights_c.proofs.three.Reads as three-reads
 
 join-lines-requires : tie.Need-join-lines-requires
 join-lines-requires c κs = search needs
@@ -46,7 +41,7 @@ three-requires-2 : tie.Need-three-requires-2
 three-requires-2 c κs = search needs
 
 lay-requires : tie.Need-lay-requires
-lay-requires c κs = (level-paired _ _ (c .before .before .before .before .before .before .before .before .before .before .before .before .before .before .before .before .before .before .before .before .before .before .before .before .before .before .pre) (sym (ap (λ (r : Lines). r .depth) (c .before .before .before .before .before .before .before .before .before .before .before .before .before .before .before .before .join-lines .ensures)) ∙ c .before .before .before .before .before .before .before .before .before .before .before .before .before .depth .given .1) (ap (λ (r : Lines). r .lines) (c .before .before .before .before .before .before .before .before .before .before .before .before .before .before .before .before .join-lines .ensures)) (c .before .before .before .before .before .before .before .before .before .before .before .if1 .taken) (ltb-true _ _ (c .before .before .before .before .before .before .before .before .before .before .if2 .taken)) (c .before .before .before .before .before .before .before .before .before .three .ensures) refl (c .before .before .before .before .before .before .before .before .three2 .ensures) refl, c .before .before .before .before .before .before .before .before .before .before .before .if1 .taken)
+lay-requires c κs = (level-paired _ _ (c .before .before .before .before .before .before .before .before .before .before .before .before .before .before .before .before .join-lines .result) (c .before .before .before .before .before .before .before .before .before .before .before .before .before .before .before .before .before .before .before .before .before .before .before .before .before .before .pre) (c .before .before .before .before .before .before .before .before .before .before .before .before .before .before .before .before .join-lines .ensures) (c .before .before .before .before .before .before .before .before .before .before .before .before .before .depth .given .1) (c .before .before .before .before .before .before .before .before .before .before .before .if1 .taken) (ltb-true _ _ (c .before .before .before .before .before .before .before .before .before .before .if2 .taken)) (c .before .before .before .before .before .before .before .before .before .three .ensures) refl (c .before .before .before .before .before .before .before .before .three2 .ensures) refl, c .before .before .before .before .before .before .before .before .before .before .before .if1 .taken)
 
 put-two-requires-2 : tie.Need-put-two-requires-2
 put-two-requires-2 c κs = search needs
@@ -55,7 +50,7 @@ same-length : tie.Need-same-length
 same-length c = search needs
 
 returns : tie.Need-returns
-returns c = level-many _ _ (sym (ap (λ (r : Lines). r .depth) (c .before .before .before .before .before .before .before .join-lines .ensures)) ∙ c .before .before .before .before .enum-told .given .1) (c .before .before .put-two .ensures)
+returns c = level-many _ _ (c .before .before .before .before .before .before .before .join-lines .result) (c .before .before .before .before .before .before .before .join-lines .ensures) (c .before .before .before .before .enum-told .given .1) (c .before .before .put-two .ensures)
 
 same-length-2 : tie.Need-same-length-2
 same-length-2 c = search needs
@@ -82,7 +77,7 @@ same-length-9 : tie.Need-same-length-9
 same-length-9 c = search needs
 
 returns-2 : tie.Need-returns-2
-returns-2 c = level-left _ _ (c .before .before .before .before .before .before .before .before .before .before .before .before .before .before .before .before .before .before .before .before .before .before .before .before .before .before .before .before .before .before .before .before .before .before .before .before .before .before .before .before .before .before .before .pre) (sym (ap (λ (r : Lines). r .depth) (c .before .before .before .before .before .before .before .before .before .before .before .before .before .before .before .before .before .before .before .before .before .before .before .before .before .before .before .before .before .before .before .before .before .join-lines .ensures)) ∙ c .before .before .before .before .before .before .before .before .before .before .before .before .before .before .before .before .before .before .before .before .before .before .before .before .before .before .before .before .before .before .depth .given .1) (ap (λ (r : Lines). r .lines) (c .before .before .before .before .before .before .before .before .before .before .before .before .before .before .before .before .before .before .before .before .before .before .before .before .before .before .before .before .before .before .before .before .before .join-lines .ensures)) (c .before .before .before .before .before .before .before .before .before .before .before .before .before .before .before .before .before .before .before .before .before .before .before .before .before .before .before .before .if1 .taken) (ltb-true _ _ (c .before .before .before .before .before .before .before .before .before .before .before .before .before .before .before .before .before .before .before .before .before .before .before .before .before .before .before .if2 .taken)) _ (c .before .before .before .before .before .before .before .before .before .before .before .before .before .before .before .before .before .before .before .before .before .before .before .before .before .before .three .ensures) refl (c .before .before .before .before .before .before .before .before .before .before .before .before .before .before .before .before .before .before .before .before .before .before .before .before .before .three2 .ensures) refl (c .before .before .before .before .before .before .before .before .before .before .before .before .before .before .before .before .lay .ensures)
+returns-2 c = level-left _ _ (c .before .before .before .before .before .before .before .before .before .before .before .before .before .before .before .before .before .before .before .before .before .before .before .before .before .before .before .before .before .before .before .before .before .join-lines .result) (c .before .before .before .before .before .before .before .before .before .before .before .before .before .before .before .before .before .before .before .before .before .before .before .before .before .before .before .before .before .before .before .before .before .before .before .before .before .before .before .before .before .before .before .pre) (c .before .before .before .before .before .before .before .before .before .before .before .before .before .before .before .before .before .before .before .before .before .before .before .before .before .before .before .before .before .before .before .before .before .join-lines .ensures) (c .before .before .before .before .before .before .before .before .before .before .before .before .before .before .before .before .before .before .before .before .before .before .before .before .before .before .before .before .before .before .depth .given .1) (c .before .before .before .before .before .before .before .before .before .before .before .before .before .before .before .before .before .before .before .before .before .before .before .before .before .before .before .before .if1 .taken) (ltb-true _ _ (c .before .before .before .before .before .before .before .before .before .before .before .before .before .before .before .before .before .before .before .before .before .before .before .before .before .before .before .if2 .taken)) _ (c .before .before .before .before .before .before .before .before .before .before .before .before .before .before .before .before .before .before .before .before .before .before .before .before .before .before .three .ensures) refl (c .before .before .before .before .before .before .before .before .before .before .before .before .before .before .before .before .before .before .before .before .before .before .before .before .before .three2 .ensures) refl (c .before .before .before .before .before .before .before .before .before .before .before .before .before .before .before .before .lay .ensures)
 
 same-length-10 : tie.Need-same-length-10
 same-length-10 c = search needs
@@ -91,8 +86,7 @@ returns-3 : tie.Need-returns-3
 returns-3 c =
     let level = c .before .before .before .before .before .before .before .before .before .before .before .before .before .before .before .before .before .before .before .args .level in
     let n = c .before .before .before .before .before .before .depth .given .0 .0 in
-    level-none _ level
-    (sym (ap (λ (r : Lines). r .depth) (c .before .before .before .before .before .before .before .before .before .join-lines .ensures)) ∙ c .before .before .before .before .before .before .depth .given .1)
+    level-none _ level (c .before .before .before .before .before .before .before .before .before .join-lines .result) (c .before .before .before .before .before .before .before .before .before .join-lines .ensures) (c .before .before .before .before .before .before .depth .given .1)
     (⊎-elim (λ u. no-next level n (u .1 .left)) (λ u. no-level level n (u .left)) (c .before .before .before .before .if1 .came))
     (c .before .before .put-two2 .ensures)
 

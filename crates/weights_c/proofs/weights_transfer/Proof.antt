@@ -2,17 +2,11 @@
 -- Assumes nothing.
 use mathlib.Core.Path.{sym, ap, _∙_}
 use borrow.Author.Tests.{not-true, not-false}
-use Rattle.lattice.proofs.CheckLaws.{passed, stretches-sound}
+use Rattle.lattice.proofs.CheckLaws.{told, stretches-sound}
 use Rattle.weights_c.proofs.ExportLaws.{export-refused, export-done}
 use borrow.Author.Needs.{needs}
 use Rattle.weights_c.proofs.weights_transfer.Statement.{statement}
 use Rattle.weights_c.proofs.weights_transfer.Tie as tie
-use Rattle.lattice.proofs.check.check_stretches.Reads as check-stretches-reads
-use Rattle.lattice.proofs.check.is_sound.Reads as is-sound-reads
-use Rattle.lattice.proofs.lattice.stretches.Reads as stretches-reads
-use Rattle.lattice_c.proofs.answer.Reads as answer-reads
-use Rattle.lattice_c.proofs.input.Reads as input-reads
-use Rattle.weights_c.proofs.transfer_at.Reads as transfer-at-reads
 
 input-requires : tie.Need-input-requires
 input-requires c κs = search needs
@@ -30,16 +24,16 @@ same-length : tie.Need-same-length
 same-length c = search needs
 
 returns : tie.Need-returns
-returns c = rw (← c .before .before .before .before .before .before .before .input .ensures) (export-refused _ _ _ _ _ _ _ _ _ (c .before .before .before .before .before .before .check-stretches .ensures) (c .before .before .before .before .before .is-sound .ensures) (not-true _ (c .before .before .before .before .if1 .taken)) (c .before .before .answer .ensures))
+returns c = export-refused _ (c .before .before .before .before .before .before .before .input .ensures) _ _ (c .before .before .before .before .before .before .check-stretches .result) (c .before .before .before .before .before .before .check-stretches .ensures) (c .before .before .before .before .before .is-sound .ensures) (not-true _ (c .before .before .before .before .if1 .taken)) (c .before .before .answer .ensures)
 
 stretches-requires : tie.Need-stretches-requires
-stretches-requires c κs = ((stretches-sound (c .before .before .before .input .result) _ _ _ _ _ _ (passed (c .before .before .check-stretches .ensures) (c .before .is-sound .ensures) (not-false _ (c .if1 .left)))) .1, (stretches-sound (c .before .before .before .input .result) _ _ _ _ _ _ (passed (c .before .before .check-stretches .ensures) (c .before .is-sound .ensures) (not-false _ (c .if1 .left)))) .2)
+stretches-requires c κs = ((stretches-sound (c .before .before .before .input .result) _ _ _ _ _ _ (told (c .before .before .check-stretches .result) (c .before .before .check-stretches .ensures) (c .before .is-sound .ensures) (not-false _ (c .if1 .left)))) .1, (stretches-sound (c .before .before .before .input .result) _ _ _ _ _ _ (told (c .before .before .check-stretches .result) (c .before .before .check-stretches .ensures) (c .before .is-sound .ensures) (not-false _ (c .if1 .left)))) .2)
 
 slice-aggregate-transfer-at : tie.Need-slice-aggregate-transfer-at
 slice-aggregate-transfer-at c = search needs
 
 transfer-at-requires : tie.Need-transfer-at-requires
-transfer-at-requires c κs = (stretches-sound (c .before .before .before .before .before .before .before .before .before .before .before .before .before .input .result) _ _ _ _ _ _ (passed (c .before .before .before .before .before .before .before .before .before .before .before .before .check-stretches .ensures) (c .before .before .before .before .before .before .before .before .before .before .before .is-sound .ensures) (not-false _ (c .before .before .before .before .before .before .before .before .before .before .if1 .left)))) .0
+transfer-at-requires c κs = (stretches-sound (c .before .before .before .before .before .before .before .before .before .before .before .before .before .input .result) _ _ _ _ _ _ (told (c .before .before .before .before .before .before .before .before .before .before .before .before .check-stretches .result) (c .before .before .before .before .before .before .before .before .before .before .before .before .check-stretches .ensures) (c .before .before .before .before .before .before .before .before .before .before .before .is-sound .ensures) (not-false _ (c .before .before .before .before .before .before .before .before .before .before .if1 .left)))) .0
 
 same-length-2 : tie.Need-same-length-2
 same-length-2 c = search needs
@@ -66,7 +60,7 @@ same-length-9 : tie.Need-same-length-9
 same-length-9 c = search needs
 
 returns-2 : tie.Need-returns-2
-returns-2 c = rw (← c .before .before .before .before .before .before .before .before .before .before .before .before .before .before .before .before .before .before .before .before .before .before .before .before .before .before .before .before .before .before .input .ensures) (export-done _ _ _ _ _ _ _ _ _ (c .before .before .before .before .before .before .before .before .before .before .before .before .before .before .before .before .before .before .before .before .before .before .before .before .before .before .before .before .before .check-stretches .ensures) (c .before .before .before .before .before .before .before .before .before .before .before .before .before .before .before .before .before .before .before .before .before .before .before .before .before .before .before .before .is-sound .ensures) (not-false _ (c .before .before .before .before .before .before .before .before .before .before .before .before .before .before .before .before .before .before .before .before .before .before .before .before .before .before .before .if1 .left)) (c .before .before .before .before .before .before .before .before .before .before .before .before .before .before .before .before .before .before .before .before .before .before .before .before .before .before .stretches .ensures .1) (c .before .before .before .before .before .before .before .before .before .before .before .before .before .before .before .before .transfer-at .ensures))
+returns-2 c = export-done _ (c .before .before .before .before .before .before .before .before .before .before .before .before .before .before .before .before .before .before .before .before .before .before .before .before .before .before .before .before .before .before .input .ensures) _ _ (c .before .before .before .before .before .before .before .before .before .before .before .before .before .before .before .before .before .before .before .before .before .before .before .before .before .before .before .before .before .check-stretches .result) (c .before .before .before .before .before .before .before .before .before .before .before .before .before .before .before .before .before .before .before .before .before .before .before .before .before .before .before .before .before .check-stretches .ensures) (c .before .before .before .before .before .before .before .before .before .before .before .before .before .before .before .before .before .before .before .before .before .before .before .before .before .before .before .before .is-sound .ensures) (not-false _ (c .before .before .before .before .before .before .before .before .before .before .before .before .before .before .before .before .before .before .before .before .before .before .before .before .before .before .before .if1 .left)) (c .before .before .before .before .before .before .before .before .before .before .before .before .before .before .before .before .before .before .before .before .before .before .before .before .before .before .stretches .ensures .1) (c .before .before .before .before .before .before .before .before .before .before .before .before .before .before .before .before .transfer-at .ensures)
 
 pub weights-transfer-spec : {M : Type 1} → statement M
 weights-transfer-spec =

@@ -5,36 +5,35 @@ use mathlib.Core.List.{[], _∷_}
 use borrow.Author.Tests.{not-true, not-false}
 use borrow.Author.Needs.{needs}
 use denote.Ref.{now}
-use Rattle.lattice.specs.declared.check.Checked.{Checked}
-use Rattle.lattice.specs.Check.{andThen, checkGrid, checkScalars, checkLengths, given, stretches}
+use Rattle.lattice.specs.Check.{Verdict, andThen, checkGrid, checkScalars, checkLengths, given, stretches}
 use Rattle.lattice.specs.Grid.{unknownsOf, Limits}
 use Rattle.lattice.specs.Lattice.{Lengths}
-use Rattle.lattice.proofs.CheckLaws.{passed, hands-on, goes-on, length-told, grid-sound, lengths-are, all-by-check}
+use Rattle.lattice.proofs.CheckLaws.{told, hands-on, goes-on, length-told, grid-sound, lengths-are, all-by-check}
 use Rattle.lattice.proofs.check.check.Statement.{statement}
 use Rattle.lattice.proofs.check.check.Tie as tie
 
 limits : (c : tie.Else1) → Limits (c .before .before .before .before .before .before .before .before .before .before .args .v .grid)
-limits c = grid-sound (c .before .before .before .before .before .before .before .before .before .before .args .v) (passed (c .before .before .check-lattice .ensures) (c .before .is-sound .ensures) (not-false _ (c .if1 .left)))
+limits c = grid-sound (c .before .before .before .before .before .before .before .before .before .before .args .v) (told (c .before .before .check-lattice .result) (c .before .before .check-lattice .ensures) (c .before .is-sound .ensures) (not-false _ (c .if1 .left)))
 
 lengths : (c : tie.Else2)
     → let a = c .before .before .before .before .before .before .before .before .before .before .before .before .before .args in
     Lengths (a .v .grid) (now (a .xn)) (now (a .yn)) (now (a .zn))
     × Lengths (a .v .grid) (now (a .xh)) (now (a .yh)) (now (a .zh))
-lengths c = lengths-are (c .before .before .before .before .before .before .before .before .before .before .before .before .before .args .v .grid) _ _ _ _ _ _ (passed (c .before .before .stretch-lengths .ensures) (c .before .is-sound2 .ensures) (not-false _ (c .if2 .left)))
+lengths c = lengths-are (c .before .before .before .before .before .before .before .before .before .before .before .before .before .args .v .grid) _ _ _ _ _ _ (told (c .before .before .stretch-lengths .result) (c .before .before .stretch-lengths .ensures) (c .before .is-sound2 .ensures) (not-false _ (c .if2 .left)))
 
 -- a check that has passed leaves the next
-past-1 : (c : tie.Else1) (d : Checked) → let v = c .before .before .before .before .before .before .before .before .before .before .args .v in andThen (andThen (checkGrid (v .grid)) (checkScalars v)) d ≡ d
-past-1 c d = goes-on d (c .before .before .check-lattice .ensures) (c .before .is-sound .ensures) (not-false _ (c .if1 .left))
+past-1 : (c : tie.Else1) (d : Verdict) → let v = c .before .before .before .before .before .before .before .before .before .before .args .v in andThen (andThen (checkGrid (v .grid)) (checkScalars v)) d ≡ d
+past-1 c d = goes-on (c .before .before .check-lattice .result) (c .before .before .check-lattice .ensures) (c .before .is-sound .ensures) d (not-false _ (c .if1 .left))
 
-past-2 : (c : tie.Else2) (d : Checked)
+past-2 : (c : tie.Else2) (d : Verdict)
     → let a = c .before .before .before .before .before .before .before .before .before .before .before .before .before .args in
     andThen (checkLengths 0 (stretches (a .v .grid) (now (a .xn)) (now (a .xh)) (now (a .yn)) (now (a .yh)) (now (a .zn)) (now (a .zh)))) d ≡ d
-past-2 c d = goes-on d (c .before .before .stretch-lengths .ensures) (c .before .is-sound2 .ensures) (not-false _ (c .if2 .left))
+past-2 c d = goes-on (c .before .before .stretch-lengths .result) (c .before .before .stretch-lengths .ensures) (c .before .is-sound2 .ensures) d (not-false _ (c .if2 .left))
 
-past-3 : (c : tie.Else3) (d : Checked)
+past-3 : (c : tie.Else3) (d : Verdict)
     → let a = c .before .before .before .before .before .before .before .before .before .before .before .before .before .before .before .before .args in
     andThen (checkLengths 6 (given (unknownsOf (a .v .grid)) (now (a .eps)) ∷ [])) d ≡ d
-past-3 c d = goes-on d (c .before .before .eps-length .ensures) (c .before .is-sound3 .ensures) (not-false _ (c .if3 .left))
+past-3 c d = goes-on (c .before .before .eps-length .result) (c .before .before .eps-length .ensures) (c .before .is-sound3 .ensures) d (not-false _ (c .if3 .left))
 
 check-lattice-requires : tie.Need-check-lattice-requires
 check-lattice-requires c κs = search needs
@@ -43,7 +42,7 @@ is-sound-requires : tie.Need-is-sound-requires
 is-sound-requires c κs = search needs
 
 returns : tie.Need-returns
-returns c = sym (all-by-check (c .before .before .before .before .before .before .before .before .before .before .args .v) _ _ _ _ _ _ _ ∙ hands-on _ (c .before .before .check-lattice .ensures) (c .before .is-sound .ensures) (not-true _ (c .if1 .taken)))
+returns c = sym (all-by-check (c .before .before .before .before .before .before .before .before .before .before .args .v) _ _ _ _ _ _ _ ∙ hands-on (c .before .before .check-lattice .result) (c .before .before .check-lattice .ensures) (c .before .is-sound .ensures) _ (not-true _ (c .if1 .taken)))
 
 stretch-lengths-requires : tie.Need-stretch-lengths-requires
 stretch-lengths-requires c κs = limits c
@@ -56,7 +55,7 @@ returns-2 c =
     sym
     (all-by-check (c .before .before .before .before .before .before .before .before .before .before .before .before .before .args .v) _ _ _ _ _ _ _
     ∙ (past-1 (c .before .before .before) _
-    ∙ hands-on _ (c .before .before .stretch-lengths .ensures) (c .before .is-sound2 .ensures) (not-true _ (c .if2 .taken))))
+    ∙ hands-on (c .before .before .stretch-lengths .result) (c .before .before .stretch-lengths .ensures) (c .before .is-sound2 .ensures) _ (not-true _ (c .if2 .taken))))
 
 eps-length-requires : tie.Need-eps-length-requires
 eps-length-requires c κs = limits (c .before .before .before)
@@ -70,7 +69,7 @@ returns-3 c =
     (all-by-check (c .before .before .before .before .before .before .before .before .before .before .before .before .before .before .before .before .args .v) _ _ _ _ _ _ _
     ∙ (past-1 (c .before .before .before .before .before .before) _
     ∙ (past-2 (c .before .before .before) _
-    ∙ hands-on _ (c .before .before .eps-length .ensures) (c .before .is-sound3 .ensures) (not-true _ (c .if3 .taken)))))
+    ∙ hands-on (c .before .before .eps-length .result) (c .before .before .eps-length .ensures) (c .before .is-sound3 .ensures) _ (not-true _ (c .if3 .taken)))))
 
 stretch-entries-requires : tie.Need-stretch-entries-requires
 stretch-entries-requires c κs = (limits (c .before .before .before .before .before .before), lengths (c .before .before .before))
@@ -85,12 +84,12 @@ returns-4 c =
     ∙ (past-1 (c .before .before .before .before .before .before .before .before .before) _
     ∙ (past-2 (c .before .before .before .before .before .before) _
     ∙ (past-3 (c .before .before .before) _
-    ∙ hands-on _ (c .before .before .stretch-entries .ensures) (c .before .is-sound4 .ensures) (not-true _ (c .if4 .taken))))))
+    ∙ hands-on (c .before .before .stretch-entries .result) (c .before .before .stretch-entries .ensures) (c .before .is-sound4 .ensures) _ (not-true _ (c .if4 .taken))))))
 
 eps-entries-requires : tie.Need-eps-entries-requires
 eps-entries-requires c κs = (
   limits (c .before .before .before .before .before .before .before .before .before),
-  length-told _ _ _ _ (passed (c .before .before .before .before .before .eps-length .ensures) (c .before .before .before .before .is-sound3 .ensures) (not-false _ (c .before .before .before .if3 .left))) .0,
+  length-told _ _ _ _ (told (c .before .before .before .before .before .eps-length .result) (c .before .before .before .before .before .eps-length .ensures) (c .before .before .before .before .is-sound3 .ensures) (not-false _ (c .before .before .before .if3 .left))) .0,
 )
 
 returns-5 : tie.Need-returns-5
@@ -101,7 +100,7 @@ returns-5 c =
     ∙ (past-1 (c .before .before .before .before .before .before .before .before .before .before) _
     ∙ (past-2 (c .before .before .before .before .before .before .before) _
     ∙ (past-3 (c .before .before .before .before) _
-    ∙ goes-on _ (c .before .before .before .stretch-entries .ensures) (c .before .before .is-sound4 .ensures) (not-false _ (c .before .if4 .left))))))
+    ∙ goes-on (c .before .before .before .stretch-entries .result) (c .before .before .before .stretch-entries .ensures) (c .before .before .is-sound4 .ensures) _ (not-false _ (c .before .if4 .left))))))
 
 pub check-spec : {M : Type 1} → statement M
 check-spec =

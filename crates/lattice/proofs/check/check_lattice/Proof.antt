@@ -16,10 +16,10 @@ check-scalars-requires : tie.Need-check-scalars-requires
 check-scalars-requires c κs = search needs
 
 returns : tie.Need-returns
-returns c = c .check-scalars .ensures ∙ sym (goes-on _ (c .before .before .before .check-grid .ensures) (c .before .before .is-sound .ensures) (c .before .if1 .taken))
+returns c = c .check-scalars .ensures ∙ sym (goes-on (c .before .before .before .check-grid .result) (c .before .before .before .check-grid .ensures) (c .before .before .is-sound .ensures) _ (c .before .if1 .taken))
 
 returns-2 : tie.Need-returns-2
-returns-2 c = sym (hands-on _ (c .before .before .check-grid .ensures) (c .before .is-sound .ensures) (c .if1 .left))
+returns-2 c = sym (hands-on (c .before .before .check-grid .result) (c .before .before .check-grid .ensures) (c .before .is-sound .ensures) _ (c .if1 .left))
 
 pub check-lattice-spec : {M : Type 1} → statement M
 check-lattice-spec =

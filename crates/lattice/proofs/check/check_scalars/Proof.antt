@@ -1,7 +1,7 @@
 -- `lattice::check::check_scalars` meets its contract, test by test.
 -- Assumes nothing.
 use mathlib.Core.Bool.{not}
-use mathlib.Core.Path.{_≡_, sym, _∙_, ap}
+use mathlib.Core.Path.{sym, _∙_, ap}
 use borrow.Author.Needs.{needs}
 use Rattle.lattice.proofs.CheckLaws.{firstMet, test-met, test-passed, Passed, scalars-by-test}
 use Rattle.lattice.proofs.check.check_scalars.Statement.{statement}

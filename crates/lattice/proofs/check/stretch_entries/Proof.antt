@@ -14,7 +14,7 @@ is-sound-requires : tie.Need-is-sound-requires
 is-sound-requires c κs = search needs
 
 returns : tie.Need-returns
-returns c = sym (entries-by-axis (c .before .before .before .before .before .before .before .before .before .args .g) _ _ _ _ _ _ ∙ hands-on _ (c .before .before .axis-entries .ensures) (c .before .is-sound .ensures) (not-true _ (c .if1 .taken)))
+returns c = sym (entries-by-axis (c .before .before .before .before .before .before .before .before .before .args .g) _ _ _ _ _ _ ∙ hands-on (c .before .before .axis-entries .result) (c .before .before .axis-entries .ensures) (c .before .is-sound .ensures) _ (not-true _ (c .if1 .taken)))
 
 mul-axis-entries : tie.Need-mul-axis-entries
 mul-axis-entries c = search needs
@@ -29,8 +29,8 @@ returns-2 : tie.Need-returns-2
 returns-2 c =
     sym
     (entries-by-axis (c .before .before .before .before .before .before .before .before .before .before .before .before .before .args .g) _ _ _ _ _ _
-    ∙ (goes-on _ (c .before .before .before .before .before .before .axis-entries .ensures) (c .before .before .before .before .before .is-sound .ensures) (not-false _ (c .before .before .before .before .if1 .left))
-    ∙ hands-on _ (c .before .before .axis-entries2 .ensures) (c .before .is-sound2 .ensures) (not-true _ (c .if2 .taken))))
+    ∙ (goes-on (c .before .before .before .before .before .before .axis-entries .result) (c .before .before .before .before .before .before .axis-entries .ensures) (c .before .before .before .before .before .is-sound .ensures) _ (not-false _ (c .before .before .before .before .if1 .left))
+    ∙ hands-on (c .before .before .axis-entries2 .result) (c .before .before .axis-entries2 .ensures) (c .before .is-sound2 .ensures) _ (not-true _ (c .if2 .taken))))
 
 mul-axis-entries-2 : tie.Need-mul-axis-entries-2
 mul-axis-entries-2 c = search needs
@@ -49,8 +49,8 @@ returns-3 c =
     c .axis-entries3 .ensures
     ∙ sym
     (entries-by-axis (c .before .before .before .before .before .before .before .before .before .before .before .before .before .before .before .before .args .g) _ _ _ _ _ _
-    ∙ (goes-on _ (c .before .before .before .before .before .before .before .before .before .axis-entries .ensures) (c .before .before .before .before .before .before .before .before .is-sound .ensures) (not-false _ (c .before .before .before .before .before .before .before .if1 .left))
-    ∙ goes-on _ (c .before .before .before .before .before .axis-entries2 .ensures) (c .before .before .before .before .is-sound2 .ensures) (not-false _ (c .before .before .before .if2 .left))))
+    ∙ (goes-on (c .before .before .before .before .before .before .before .before .before .axis-entries .result) (c .before .before .before .before .before .before .before .before .before .axis-entries .ensures) (c .before .before .before .before .before .before .before .before .is-sound .ensures) _ (not-false _ (c .before .before .before .before .before .before .before .if1 .left))
+    ∙ goes-on (c .before .before .before .before .before .axis-entries2 .result) (c .before .before .before .before .before .axis-entries2 .ensures) (c .before .before .before .before .is-sound2 .ensures) _ (not-false _ (c .before .before .before .if2 .left))))
 
 pub stretch-entries-spec : {M : Type 1} → statement M
 stretch-entries-spec =

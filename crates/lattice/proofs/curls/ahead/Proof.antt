@@ -1,7 +1,7 @@
 use native.Mathlib.Omega.{arith}
 use borrow.Author.Needs.{needs}
 use Rattle.lattice.specs.Curls.{ahead}
-use Rattle.lattice.proofs.TermLaws.{wrote-append, wrote-most}
+use Rattle.numbers.proofs.TermLaws.{wrote-append, wrote-most}
 use Rattle.lattice.proofs.RowLaws.{with-in, to-most}
 use Rattle.lattice.proofs.curls.ahead.Statement.{statement}
 use Rattle.lattice.proofs.curls.ahead.Tie as tie

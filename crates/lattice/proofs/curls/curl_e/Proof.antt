@@ -3,7 +3,7 @@ use native.Mathlib.Omega.{arith}
 use borrow.Author.Needs.{needs}
 use Rattle.lattice.specs.Curls.{curlE, curlEAt}
 use Rattle.lattice.proofs.GridLaws.{next-low, last-low}
-use Rattle.lattice.proofs.TermLaws.{wrote-append, wrote-most}
+use Rattle.numbers.proofs.TermLaws.{wrote-append, wrote-most}
 use Rattle.lattice.proofs.RowLaws.{at-in, ahead-most}
 use Rattle.lattice.proofs.curls.curl_e.Statement.{statement}
 use Rattle.lattice.proofs.curls.curl_e.Tie as tie

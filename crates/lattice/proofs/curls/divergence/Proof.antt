@@ -1,7 +1,7 @@
 use native.Mathlib.Omega.{arith}
 use borrow.Author.Needs.{needs}
 use Rattle.lattice.specs.Curls.{divergenceOf}
-use Rattle.lattice.proofs.TermLaws.{wrote-append, wrote-most}
+use Rattle.numbers.proofs.TermLaws.{wrote-append, wrote-most}
 use Rattle.lattice.proofs.RowLaws.{at-in, behind-most}
 use Rattle.lattice.proofs.curls.divergence.Statement.{statement}
 use Rattle.lattice.proofs.curls.divergence.Tie as tie

@@ -1,7 +1,7 @@
 use native.Mathlib.Omega.{arith}
 use borrow.Author.Needs.{needs}
 use Rattle.lattice.specs.Curls.{gradientOf, gradientAt}
-use Rattle.lattice.proofs.TermLaws.{wrote-append, wrote-most}
+use Rattle.numbers.proofs.TermLaws.{wrote-append, wrote-most}
 use Rattle.lattice.proofs.RowLaws.{at-in, with-in, free-most, to-most}
 use Rattle.lattice.proofs.curls.gradient.Statement.{statement}
 use Rattle.lattice.proofs.curls.gradient.Tie as tie

@@ -1,7 +1,7 @@
 use native.Mathlib.Omega.{arith}
 use borrow.Author.Needs.{needs}
 use Rattle.lattice.specs.Curls.{freeNodes, termHere}
-use Rattle.lattice.proofs.TermLaws.{wrote-none}
+use Rattle.numbers.proofs.TermLaws.{wrote-none}
 use Rattle.lattice.proofs.RowLaws.{with-in}
 use Rattle.lattice.proofs.curls.push_free_here.Statement.{statement}
 use Rattle.lattice.proofs.curls.push_free_here.Tie as tie

@@ -1,6 +1,6 @@
 use borrow.Author.Needs.{needs}
 use Rattle.lattice.specs.Curls.{freeNodes}
-use Rattle.lattice.proofs.TermLaws.{wrote-none}
+use Rattle.numbers.proofs.TermLaws.{wrote-none}
 use Rattle.lattice.proofs.curls.push_free_node.Statement.{statement}
 use Rattle.lattice.proofs.curls.push_free_node.Tie as tie
 

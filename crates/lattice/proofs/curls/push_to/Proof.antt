@@ -1,5 +1,5 @@
 use borrow.Author.Needs.{needs}
-use Rattle.lattice.proofs.TermLaws.{wrote-none}
+use Rattle.numbers.proofs.TermLaws.{wrote-none}
 use Rattle.lattice.proofs.curls.push_to.Statement.{statement}
 use Rattle.lattice.proofs.curls.push_to.Tie as tie
 

@@ -1,7 +1,6 @@
 use Prim.Native.Nat.{_-_, _≤_}
-use mathlib.Core.Path.{_≡_, refl, sym, _∙_, ap, subst}
+use mathlib.Core.Path.{_≡_}
 use native.Mathlib.Omega.{arith}
-use lib.ListN.{length}
 use Rattle.lattice.specs.Lattice.{stretchAt, LaidStretches}
 use Rattle.lattice.proofs.LatticeLaws.{laid-start, laid-turn}
 use borrow.Author.Needs.{needs}

@@ -1,7 +1,7 @@
 use lib.Ieee.{binary64, ofBits}
 use lib.ListN.{length-replicate}
 use denote.Ref.{now}
-use Rattle.lattice.proofs.LatticeLaws.{medium-is}
+use Rattle.lattice.proofs.LatticeLaws.{fullLattice-is}
 use borrow.Author.Needs.{needs}
 use Rattle.lattice.proofs.lattice.stretches.Statement.{statement}
 use Rattle.lattice.proofs.lattice.stretches.Tie as tie
@@ -21,7 +21,7 @@ lay-stretches-requires-2 c κs = search needs
 returns : tie.Need-returns
 returns c =
     let a = c .before .before .before .before .before .before .before .before .before .before .before .before .args in
-    medium-is (a .v) (now (a .xn)) (now (a .xh)) (now (a .yn)) (now (a .yh)) (now (a .zn)) (now (a .zh)) (length-replicate 768 (ofBits binary64 0))
+    fullLattice-is (a .v) (now (a .xn)) (now (a .xh)) (now (a .yn)) (now (a .yh)) (now (a .zn)) (now (a .zh)) (length-replicate 768 (ofBits binary64 0))
     (c .before .before .before .before .lay-stretches .ensures) (c .before .lay-stretches2 .ensures)
 
 pub stretches-spec : {M : Type 1} → statement M

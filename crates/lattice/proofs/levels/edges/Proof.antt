@@ -4,7 +4,7 @@ use Prim.Native.Nat.{_*_, _≤_}
 use mathlib.Core.Path.{refl}
 use native.Mathlib.Omega.{arith}
 use native.Mathlib.Nat.{mul-le-mul}
-use Rattle.lattice.specs.Levels.{edgesOf}
+use Rattle.lattice.specs.Levels.{threeEdges}
 use Rattle.lattice.proofs.levels.edges.Statement.{statement}
 use Rattle.lattice.proofs.levels.edges.Tie as tie
 
@@ -21,7 +21,7 @@ mul-result-3 : tie.Need-mul-result-3
 mul-result-3 c = omega (arith, cells-most (c .before .before .before .before .before .before))
 
 returns : tie.Need-returns
-unfolding edgesOf
+unfolding threeEdges
 returns c = refl
 
 pub edges-spec : {M : Type 1} → statement M

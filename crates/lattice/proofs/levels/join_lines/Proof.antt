@@ -8,7 +8,7 @@ use native.Mathlib.Omega.{arith}
 use borrow.Author.Needs.{needs}
 use lib.ListN.{length-set, length}
 use Rattle.lattice.specs.declared.levels.Three.{Three}
-use Rattle.lattice.specs.Lattice.{medium, Medium}
+use Rattle.lattice.specs.Lattice.{fullLattice, FullLattice}
 use Rattle.lattice.specs.Levels.{mapsOf, threeAt}
 use Rattle.lattice.specs.Line.{Held}
 use Rattle.lattice.specs.Grid.{Limits}
@@ -20,17 +20,17 @@ abbrev Inv-loop : tie.InvT-loop
 Inv-loop st coarsest m none lines₀ t₀ level₀ lines t level =
     (level ≤ 12)
     × (length lines ≡ 36)
-    × ((l : Medium) → Limits (l .grid) → m ≡ mapsOf l → t₀ ≡ threeAt l 0 → Stored l coarsest level lines t)
+    × ((l : FullLattice) → Limits (l .grid) → m ≡ mapsOf l → t₀ ≡ threeAt l 0 → Stored l coarsest level lines t)
 
 abbrev μ-loop : tie.MeasureT-loop
 μ-loop st coarsest m none lines₀ t₀ level₀ lines t level = 12 - level
 
 -- the lattice's own case
-stored : (c : tie.At-loop Inv-loop μ-loop) → Stored ((medium (c .before .before .before .before .before .args .l) (now (c .before .before .before .before .before .args .st)))) (c .before .before .before .before .before .args .coarsest) (c .loop .level) (c .loop .lines) (c .loop .t)
-stored c = c .loop .inv .2 ((medium (c .before .before .before .before .before .args .l) (now (c .before .before .before .before .before .args .st)))) (c .before .before .before .before .before .pre) (c .before .before .before .across-maps .ensures) (c .before .finest .ensures)
+stored : (c : tie.At-loop Inv-loop μ-loop) → Stored ((fullLattice (c .before .before .before .before .before .args .l) (now (c .before .before .before .before .before .args .st)))) (c .before .before .before .before .before .args .coarsest) (c .loop .level) (c .loop .lines) (c .loop .t)
+stored c = c .loop .inv .2 ((fullLattice (c .before .before .before .before .before .args .l) (now (c .before .before .before .before .before .args .st)))) (c .before .before .before .before .before .pre) (c .before .before .before .across-maps .ensures) (c .before .finest .ensures)
 
 held : (c : tie.At-loop Inv-loop μ-loop) → Held (c .loop .t .x) × Held (c .loop .t .y) × Held (c .loop .t .z)
-held c = subst (λ (t : Three). Held (t .x) × Held (t .y) × Held (t .z)) (sym (stored c .here)) (three-held ((medium (c .before .before .before .before .before .args .l) (now (c .before .before .before .before .before .args .st)))) (c .before .before .before .before .before .pre) (c .loop .level))
+held c = subst (λ (t : Three). Held (t .x) × Held (t .y) × Held (t .z)) (sym (stored c .here)) (three-held ((fullLattice (c .before .before .before .before .before .args .l) (now (c .before .before .before .before .before .args .st)))) (c .before .before .before .before .before .pre) (c .loop .level))
 
 across-maps-requires : tie.Need-across-maps-requires Inv-loop μ-loop
 across-maps-requires c κs = search needs

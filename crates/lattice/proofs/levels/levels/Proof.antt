@@ -1,28 +1,23 @@
 -- `lattice::levels::levels` meets its contract: a sound input gives what the level loop requires.
 -- Assumes nothing.
-use mathlib.Core.Bool.{true}
-use mathlib.Core.Path.{_≡_, sym, _∙_, ap}
+use mathlib.Core.Path.{sym, ap}
 use borrow.Author.Tests.{not-true, not-false}
 use borrow.Author.Needs.{needs}
 use denote.Ref.{now}
-use Rattle.lattice.specs.Levels.{levelLinesOf, answerTo}
+use Rattle.lattice.specs.Levels.{depthVerdict}
 use Rattle.lattice.specs.Grid.{Limits}
 use Rattle.lattice.specs.Lattice.{Lengths}
-use Rattle.lattice.specs.Check.{isSound}
-use Rattle.lattice.proofs.LevelLaws.{found-refused, found-sound}
-use Rattle.lattice.proofs.CheckLaws.{stretches-sound}
+use Rattle.lattice.proofs.LevelLaws.{answered-refused, answered-found}
+use Rattle.lattice.proofs.CheckLaws.{told, stretches-sound}
 use Rattle.lattice.proofs.levels.levels.Statement.{statement}
 use Rattle.lattice.proofs.levels.levels.Tie as tie
-
-sound : (c : tie.Else1) → isSound (c .before .before .check-stretches .result) ≡ true
-sound c = sym (c .before .is-sound .ensures) ∙ not-false _ (c .if1 .left)
 
 fine : (c : tie.Else1)
     → let a = c .before .before .before .before .before .before .before .before .before .args in
     Limits (a .v .grid)
     × Lengths (a .v .grid) (now (a .xn)) (now (a .yn)) (now (a .zn))
     × Lengths (a .v .grid) (now (a .xh)) (now (a .yh)) (now (a .zh))
-fine c = stretches-sound (c .before .before .before .before .before .before .before .before .before .args .v) _ _ _ _ _ _ (ap isSound (sym (c .before .before .check-stretches .ensures)) ∙ sound c)
+fine c = stretches-sound (c .before .before .before .before .before .before .before .before .before .args .v) _ _ _ _ _ _ (told (c .before .before .check-stretches .result) (c .before .before .check-stretches .ensures) (c .before .is-sound .ensures) (not-false _ (c .if1 .left)))
 
 check-stretches-requires : tie.Need-check-stretches-requires
 check-stretches-requires c κs = search needs
@@ -34,9 +29,7 @@ no-line-requires : tie.Need-no-line-requires
 no-line-requires c κs = search needs
 
 returns : tie.Need-returns
-unfolding levelLinesOf
-returns c =
-    found-refused _ _ (c .before .before .before .check-stretches .ensures) (sym (c .before .before .is-sound .ensures) ∙ not-true _ (c .before .if1 .taken)) (c .no-line .ensures)
+returns c = answered-refused _ _ _ _ _ _ _ _ (c .before .before .before .check-stretches .result) (c .before .before .before .check-stretches .ensures) (c .before .before .is-sound .ensures) (not-true _ (c .before .if1 .taken)) (c .no-line .ensures)
 
 stretches-requires : tie.Need-stretches-requires
 stretches-requires c κs = (fine c .1, fine c .2)
@@ -54,16 +47,14 @@ enum-told : tie.Need-enum-told
 enum-told c = search needs
 
 returns-2 : tie.Need-returns-2
-unfolding levelLinesOf
 returns-2 c =
-    found-sound _ (c .before .before .before .before .join-lines .result) (c .before .before .before .before .before .before .before .before .before .check-stretches .ensures) (sound (c .before .before .before .before .before .before .before)) (c .before .before .before .before .before .before .stretches .ensures .1) (c .before .before .before .before .join-lines .ensures)
-    (sym (ap answerTo (c .before .depth .given .1)))
+    answered-found _ _ _ _ _ _ _ _ (c .before .before .before .before .before .before .before .before .before .check-stretches .result) (c .before .before .before .before .before .before .before .before .before .check-stretches .ensures) (c .before .before .before .before .before .before .before .before .is-sound .ensures) _ _ (not-false _ (c .before .before .before .before .before .before .before .if1 .left)) (c .before .before .before .before .before .before .stretches .ensures .1)
+    (c .before .before .before .before .join-lines .ensures) (sym (ap depthVerdict (c .before .depth .given .1)))
 
 returns-3 : tie.Need-returns-3
-unfolding levelLinesOf
 returns-3 c =
-    found-sound _ (c .before .before .before .join-lines .result) (c .before .before .before .before .before .before .before .before .check-stretches .ensures) (sound (c .before .before .before .before .before .before)) (c .before .before .before .before .before .stretches .ensures .1) (c .before .before .before .join-lines .ensures)
-    (sym (ap answerTo (c .enum-told .given .1)))
+    answered-found _ _ _ _ _ _ _ _ (c .before .before .before .before .before .before .before .before .check-stretches .result) (c .before .before .before .before .before .before .before .before .check-stretches .ensures) (c .before .before .before .before .before .before .before .is-sound .ensures) _ _ (not-false _ (c .before .before .before .before .before .before .if1 .left)) (c .before .before .before .before .before .stretches .ensures .1)
+    (c .before .before .before .join-lines .ensures) (sym (ap depthVerdict (c .enum-told .given .1)))
 
 pub levels-spec : {M : Type 1} → statement M
 levels-spec =

@@ -6,7 +6,7 @@ use mathlib.Core.Path.{_≡_, refl}
 use borrow.Author.Needs.{needs}
 use Rattle.lattice.specs.Line.{twice, finestEnds}
 use Rattle.lattice.proofs.LineLaws.{packed-is}
-use Rattle.lattice.proofs.TabulateLaws.{Filled, filled-start, filled-turn, filled-end, length-tabulate}
+use Rattle.numbers.proofs.TabulateLaws.{Filled, filled-start, filled-turn, filled-end, length-tabulate}
 use Rattle.lattice.proofs.line.finest.Statement.{statement}
 use Rattle.lattice.proofs.line.finest.Tie as tie
 

@@ -1,5 +1,5 @@
 use denote.Ref.{now}
-use Rattle.lattice.specs.Lattice.{medium}
+use Rattle.lattice.specs.Lattice.{fullLattice}
 use mathlib.Core.Path.{_≡_, refl}
 use mathlib.Core.Bool.{not, _&&_}
 use lib.Dec.{eqb}
@@ -12,7 +12,7 @@ use Rattle.lattice.proofs.neighbours.fixed_at.Tie as tie
 
 -- the tests of the first two axes
 first-side : (c : tie.Joined1)
-    → c .if1 .if2 ≡ (not (eqb 0 (c .before .before .args .p .component)) && onWall ((medium (c .before .before .args .l) (now (c .before .before .args .st)))) (c .before .before .args .p) 0)
+    → c .if1 .if2 ≡ (not (eqb 0 (c .before .before .args .p .component)) && onWall ((fullLattice (c .before .before .args .l) (now (c .before .before .args .st)))) (c .before .before .args .p) 0)
 first-side c =
     ⊎-elim
     (λ w. other-axis _ _ (w .0 .taken) (w .1 .ensures) (w .2))
@@ -22,7 +22,7 @@ first-side c =
 second-side : (c : tie.Joined3)
     → c .if3 .if4
     ≡ (not (eqb 1 (c .before .before .before .before .args .p .component))
-    && onWall ((medium (c .before .before .before .before .args .l) (now (c .before .before .before .before .args .st)))) (c .before .before .before .before .args .p) 1)
+    && onWall ((fullLattice (c .before .before .before .before .args .l) (now (c .before .before .before .before .args .st)))) (c .before .before .before .before .args .p) 1)
 second-side c =
     ⊎-elim
     (λ w. other-axis _ _ (w .0 .taken) (w .1 .ensures) (w .2))

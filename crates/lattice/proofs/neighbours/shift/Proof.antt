@@ -10,8 +10,8 @@ use Rattle.lattice.proofs.neighbours.shift.Tie as tie
 add-if2 : tie.Need-add-if2
 add-if2 c = search needs
 
-add-t13 : tie.Need-add-t13
-add-t13 c = search needs
+add-t11 : tie.Need-add-t11
+add-t11 c = search needs
 
 one-requires : tie.Need-one-requires
 one-requires c κs = search needs
@@ -31,14 +31,14 @@ enum-told-2 c = search needs
 enum-known-e-2 : tie.Need-enum-known-e-2
 enum-known-e-2 c = search needs
 
-sub-t20 : tie.Need-sub-t20
-sub-t20 c = search needs
+sub-t17 : tie.Need-sub-t17
+sub-t17 c = search needs
 
 conj-requires : tie.Need-conj-requires
 conj-requires c κs = search needs
 
-sub-t23 : tie.Need-sub-t23
-sub-t23 c = search needs
+sub-t19 : tie.Need-sub-t19
+sub-t19 c = search needs
 
 one-requires-2 : tie.Need-one-requires-2
 one-requires-2 c κs = search needs
@@ -72,16 +72,16 @@ shift-spec =
     tie.close
     (tie.spec
     add-if2
-    add-t13
+    add-t11
     one-requires
     returns
     enum-told
     enum-known-e
     enum-told-2
     enum-known-e-2
-    sub-t20
+    sub-t17
     conj-requires
-    sub-t23
+    sub-t19
     one-requires-2
     returns-2
     returns-3

@@ -1,7 +1,7 @@
 use native.Mathlib.Omega.{arith}
 use borrow.Author.Needs.{needs}
 use Rattle.lattice.specs.Rows.{curlCurl}
-use Rattle.lattice.proofs.TermLaws.{read-back, low-below}
+use Rattle.numbers.proofs.TermLaws.{read-back, low-below}
 use Rattle.lattice.proofs.RowLaws.{curl-h-most, low-curl-h}
 use Rattle.lattice.proofs.rows.curl_curl_into.Statement.{statement}
 use Rattle.lattice.proofs.rows.curl_curl_into.Tie as tie

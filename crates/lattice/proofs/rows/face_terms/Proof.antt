@@ -1,7 +1,7 @@
 use native.Mathlib.Omega.{arith}
 use borrow.Author.Needs.{needs}
 use Rattle.lattice.specs.Rows.{faceTerms}
-use Rattle.lattice.proofs.TermLaws.{read-back}
+use Rattle.numbers.proofs.TermLaws.{read-back}
 use Rattle.lattice.proofs.RowLaws.{curl-e-most}
 use Rattle.lattice.proofs.rows.face_terms.Statement.{statement}
 use Rattle.lattice.proofs.rows.face_terms.Tie as tie

@@ -1,7 +1,7 @@
 use native.Mathlib.Omega.{arith}
 use borrow.Author.Needs.{needs}
 use Rattle.lattice.specs.Rows.{gradDiv}
-use Rattle.lattice.proofs.TermLaws.{read-back, low-below}
+use Rattle.numbers.proofs.TermLaws.{read-back, low-below}
 use Rattle.lattice.proofs.RowLaws.{gradient-most, low-gradient}
 use Rattle.lattice.proofs.rows.grad_div_into.Statement.{statement}
 use Rattle.lattice.proofs.rows.grad_div_into.Tie as tie

@@ -2,7 +2,7 @@ use native.Mathlib.Omega.{arith}
 use mathlib.Core.Path.{_∙_}
 use borrow.Author.Needs.{needs}
 use Rattle.lattice.specs.Rows.{nodeTerms}
-use Rattle.lattice.proofs.TermLaws.{read-back, low-below}
+use Rattle.numbers.proofs.TermLaws.{read-back, low-below}
 use Rattle.lattice.proofs.RowLaws.{divergence-most, low-divergence, mean-held}
 use Rattle.lattice.proofs.rows.node_terms.Statement.{statement}
 use Rattle.lattice.proofs.rows.node_terms.Tie as tie

@@ -1,6 +1,6 @@
 use borrow.Author.Needs.{needs}
 use Rattle.lattice.specs.Rows.{faceTerm}
-use Rattle.lattice.proofs.TermLaws.{wrote-none}
+use Rattle.numbers.proofs.TermLaws.{wrote-none}
 use Rattle.lattice.proofs.rows.push_face_term.Statement.{statement}
 use Rattle.lattice.proofs.rows.push_face_term.Tie as tie
 

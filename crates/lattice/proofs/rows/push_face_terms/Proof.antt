@@ -1,15 +1,15 @@
-use Rattle.lattice.specs.Lattice.{medium}
+use Rattle.lattice.specs.Lattice.{fullLattice}
 use Prim.Native.Nat.{_-_}
 use native.Mathlib.Omega.{arith}
 use borrow.Author.Needs.{needs}
 use Rattle.lattice.specs.Rows.{faceTerm}
-use Rattle.lattice.proofs.TermLaws.{Laying, laying-start, laying-turn, laying-end, laying-most}
+use Rattle.numbers.proofs.TermLaws.{Laying, laying-start, laying-turn, laying-end, laying-most}
 use Rattle.lattice.proofs.RowLaws.{face-term-most}
 use Rattle.lattice.proofs.rows.push_face_terms.Statement.{statement}
 use Rattle.lattice.proofs.rows.push_face_terms.Tie as tie
 
 abbrev Inv-loop : tie.InvT-loop
-Inv-loop l st wh n cs xs from columns₀ values₀ k₀ m₀ columns values k m = Laying (faceTerm (medium l st) wh) cs xs n from columns₀ values₀ columns values k m
+Inv-loop l st wh n cs xs from columns₀ values₀ k₀ m₀ columns values k m = Laying (faceTerm (fullLattice l st) wh) cs xs n from columns₀ values₀ columns values k m
 
 abbrev μ-loop : tie.MeasureT-loop
 μ-loop l st wh n cs xs from columns₀ values₀ k₀ m₀ columns values k m = n - m

@@ -1,7 +1,7 @@
 use lib.Ieee.{ofBits, neg}
 use borrow.Author.Needs.{needs}
 use Rattle.lattice.specs.Rows.{nodeTerm}
-use Rattle.lattice.proofs.TermLaws.{wrote-none}
+use Rattle.numbers.proofs.TermLaws.{wrote-none}
 use Rattle.lattice.proofs.rows.push_node_term.Statement.{statement}
 use Rattle.lattice.proofs.rows.push_node_term.Tie as tie
 

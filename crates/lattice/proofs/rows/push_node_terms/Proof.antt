@@ -1,16 +1,16 @@
-use Rattle.lattice.specs.Lattice.{medium}
+use Rattle.lattice.specs.Lattice.{fullLattice}
 use Prim.Native.Nat.{_-_}
 use native.Mathlib.Omega.{arith}
 use borrow.Author.Needs.{needs}
 use Rattle.numbers.specs.Places.{numberAt}
 use Rattle.lattice.specs.Rows.{nodeTerm}
-use Rattle.lattice.proofs.TermLaws.{Laying, laying-start, laying-turn, laying-end, laying-most}
+use Rattle.numbers.proofs.TermLaws.{Laying, laying-start, laying-turn, laying-end, laying-most}
 use Rattle.lattice.proofs.RowLaws.{node-term-most}
 use Rattle.lattice.proofs.rows.push_node_terms.Statement.{statement}
 use Rattle.lattice.proofs.rows.push_node_terms.Tie as tie
 
 abbrev Inv-loop : tie.InvT-loop
-Inv-loop l st eps wg inverse n cs xs from columns₀ values₀ k₀ m₀ columns values k m = Laying (nodeTerm (medium l st) (numberAt eps) wg inverse) cs xs n from columns₀ values₀ columns values k m
+Inv-loop l st eps wg inverse n cs xs from columns₀ values₀ k₀ m₀ columns values k m = Laying (nodeTerm (fullLattice l st) (numberAt eps) wg inverse) cs xs n from columns₀ values₀ columns values k m
 
 abbrev μ-loop : tie.MeasureT-loop
 μ-loop l st eps wg inverse n cs xs from columns₀ values₀ k₀ m₀ columns values k m = n - m

@@ -1,7 +1,7 @@
 use native.Mathlib.Omega.{arith}
 use borrow.Author.Needs.{needs}
 use Rattle.lattice.specs.Rows.{rowInto}
-use Rattle.lattice.proofs.TermLaws.{wrote-append, wrote-most}
+use Rattle.numbers.proofs.TermLaws.{wrote-append, wrote-most}
 use Rattle.lattice.proofs.RowLaws.{curl-curl-most}
 use Rattle.lattice.proofs.rows.row_into.Statement.{statement}
 use Rattle.lattice.proofs.rows.row_into.Tie as tie

@@ -1,4 +1,4 @@
-use Rattle.lattice.specs.Lattice.{medium}
+use Rattle.lattice.specs.Lattice.{fullLattice}
 use Prim.Native.Nat.{_-_}
 use mathlib.Core.Path.{sym, _∙_}
 use mathlib.Core.Logic.{⊎-elim}
@@ -11,7 +11,7 @@ use Rattle.lattice.proofs.rows.sum_free.Statement.{statement}
 use Rattle.lattice.proofs.rows.sum_free.Tie as tie
 
 abbrev Inv-loop : tie.InvT-loop
-Inv-loop l st eps n cs total₀ count₀ m₀ total count m = Summing (medium l st) (numberAt eps) cs n total count m
+Inv-loop l st eps n cs total₀ count₀ m₀ total count m = Summing (fullLattice l st) (numberAt eps) cs n total count m
 
 abbrev μ-loop : tie.MeasureT-loop
 μ-loop l st eps n cs total₀ count₀ m₀ total count m = n - m

@@ -1,4 +1,4 @@
-use Rattle.lattice.specs.Lattice.{medium}
+use Rattle.lattice.specs.Lattice.{fullLattice}
 -- `lattice::stretched::across_map` meets its contract. The invariant (`Mapping`): the map is filled up to half-step p, where it is `here`.
 -- Assumes nothing.
 use Prim.Native.Nat.{_≤_, _-_, _*_}
@@ -11,7 +11,7 @@ use Rattle.lattice.proofs.stretched.across_map.Statement.{statement}
 use Rattle.lattice.proofs.stretched.across_map.Tie as tie
 
 abbrev Inv-loop : tie.InvT-loop
-Inv-loop l st axis n x₀ here₀ p₀ p-end x here p = (n ≤ 64) × (p ≤ 2 * n) × Mapping (acrossStretch (medium l st) axis) p x here
+Inv-loop l st axis n x₀ here₀ p₀ p-end x here p = (n ≤ 64) × (p ≤ 2 * n) × Mapping (acrossStretch (fullLattice l st) axis) p x here
 
 abbrev μ-loop : tie.MeasureT-loop
 μ-loop l st axis n x₀ here₀ p₀ p-end x here p = 2 * n - p

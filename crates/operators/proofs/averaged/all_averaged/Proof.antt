@@ -3,7 +3,7 @@
 use Prim.Native.Nat.{_-_}
 use native.Mathlib.Omega.{arith}
 use Rattle.lattice.proofs.GridLaws.{unknowns-most}
-use Rattle.weights.specs.Tables.{readFrom}
+use Rattle.numbers.specs.Lists.{readFrom}
 use Rattle.weights.proofs.EpsLaws.{Chaining, chaining-start, chaining-end, chaining-room}
 use Rattle.operators.specs.Averaged.{averagedNo}
 use Rattle.operators.proofs.AverageLaws.{averaging-turn, ready-at}

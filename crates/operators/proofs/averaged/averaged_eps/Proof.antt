@@ -1,6 +1,6 @@
 -- `operators::averaged::averaged_eps` meets its contract.
 -- Assumes nothing.
-use Rattle.lattice.specs.Lattice.{medium}
+use Rattle.lattice.specs.Lattice.{fullLattice}
 use Rattle.weights.proofs.EpsLaws.{Chain, chain, fine-in, coarse-in, chain-room}
 use Rattle.operators.proofs.AverageLaws.{averages-ready, averages-laid, averages-room, averages-finite}
 use borrow.Author.Needs.{needs}
@@ -10,7 +10,7 @@ use Rattle.operators.proofs.averaged.averaged_eps.Tie as tie
 -- the grids and the nodes are those of the levels
 levels : (c : tie.After-nodes)
     → let a = c .before .before .before .before .before .args in
-    Chain (medium (a .l) (a .st .now)) (a .fine) (a .coarse) (c .before .before .grid-of .result) (c .before .grid-of2 .result) (c .nodes .result) (a .from) (a .to) (a .eps .now)
+    Chain (fullLattice (a .l) (a .st .now)) (a .fine) (a .coarse) (c .before .before .grid-of .result) (c .before .grid-of2 .result) (c .nodes .result) (a .from) (a .to) (a .eps .now)
 levels c =
     let s = c .before .before .before .before .before in
     chain (s .pre .0 .paired) (s .pre .1) (c .before .before .grid-of .ensures) (c .before .grid-of2 .ensures) (c .nodes .ensures)

@@ -4,7 +4,7 @@ use Prim.Native.Nat.{_+_, _*_, _<_}
 use native.Mathlib.Omega.{arith}
 use Rattle.lattice.specs.Grid.{nextAxis, lastAxis}
 use Rattle.lattice.proofs.GridLaws.{next-low, last-low}
-use Rattle.weights.specs.Tables.{readFrom}
+use Rattle.numbers.specs.Lists.{readFrom}
 use Rattle.operators.proofs.AverageLaws.{Spot, spot, spot-low, spot-fit, node-low, cell-fits, average-is}
 use borrow.Author.Needs.{needs}
 use Rattle.operators.proofs.averaged.averaged_eps_at.Statement.{statement}

@@ -5,7 +5,7 @@ use Prim.Native.Nat.{_-_, _≤_}
 use native.Mathlib.Omega.{arith}
 use Rattle.lattice.specs.Line.{endsOf}
 use Rattle.operators.specs.Averaged.{AxisHats}
-use Rattle.operators.proofs.HatLaws.{axis-start, axis-turn, axis-end}
+use Rattle.operators.proofs.HatLaws.{nodes-from, axis-start, axis-turn, axis-end}
 use Rattle.operators.proofs.averaged.axis_hats.Statement.{statement}
 use Rattle.operators.proofs.averaged.axis_hats.Tie as tie
 
@@ -16,51 +16,37 @@ abbrev μ-loop : tie.MeasureT-loop
 μ-loop f c wall axis nodes₀ weights₀ counts₀ nn n m₀ nodes weights counts m = c .cells - m
 
 nodes-of-requires : tie.Need-nodes-of-requires Inv-loop μ-loop
-nodes-of-requires c κs =
-    let s = c .before .before .before in
-    (s .pre .0 .fine-held, (s .pre .0 .coarse-held, s .pre .0 .coarse-rises))
+nodes-of-requires c κs = (c .before .before .before .pre .0 .fine-held, (c .before .before .before .pre .0 .coarse-held, c .before .before .before .pre .0 .coarse-rises))
 
 loop-holds : tie.Need-loop-holds Inv-loop μ-loop
 loop-holds c = (omega arith, axis-start)
 
 mul-b : tie.Need-mul-b Inv-loop μ-loop
-mul-b c =
-    let s = c .before .before .before .before .before .before in
-    omega (arith, s .pre .1 .0)
+mul-b c = omega (arith, c .before .before .before .before .before .before .pre .1 .0)
 
 add-b : tie.Need-add-b Inv-loop μ-loop
-add-b c =
-    let s = c .before .before .before .before .before .before in
-    omega (arith, s .pre .1 .0, s .pre .0 .coarse-held .most)
+add-b c = omega (arith, c .before .before .before .before .before .before .pre .1 .0, c .before .before .before .before .before .before .pre .0 .coarse-held .most)
+
+slice-aggregate-push-around : tie.Need-slice-aggregate-push-around Inv-loop μ-loop
+slice-aggregate-push-around c = search needs
 
 mul-push-around : tie.Need-mul-push-around Inv-loop μ-loop
-mul-push-around c =
-    let s = c .before .before .before .before .before .before .before .before in
-    omega (arith, s .pre .1 .0, s .pre .0 .coarse-held .most)
+mul-push-around c = omega (arith, c .before .before .before .before .before .before .before .before .before .pre .1 .0, c .before .before .before .before .before .before .before .before .before .pre .0 .coarse-held .most)
 
 push-around-requires : tie.Need-push-around-requires Inv-loop μ-loop
-push-around-requires c κs =
-    let s = c .before .before .before .before .before .before .before .before in
-    (s .pre .0, (c .before .before .before .before .nodes-of .ensures, (c .before .before .loop-test .taken, omega (arith, s .pre .1 .0, s .pre .0 .coarse-held .most))))
+push-around-requires c κs = (c .before .before .before .before .before .before .before .before .before .pre .0, (nodes-from (c .before .before .before .before .before .before .before .before .before .pre .0) (c .before .before .before .before .before .nodes-of .ensures), (c .before .before .before .loop-test .taken, omega (arith, c .before .before .before .before .before .before .before .before .before .pre .1 .0, c .before .before .before .before .before .before .before .before .before .pre .0 .coarse-held .most))))
 
 mul-counts : tie.Need-mul-counts Inv-loop μ-loop
-mul-counts c =
-    let s = c .before .before .before .before .before .before .before .before .before .before .before .before .before in
-    omega (arith, s .pre .1 .0, s .pre .0 .coarse-held .most)
+mul-counts c = omega (arith, c .before .before .before .before .before .before .before .before .before .before .before .before .before .before .pre .1 .0, c .before .before .before .before .before .before .before .before .before .before .before .before .before .before .pre .0 .coarse-held .most)
 
 sub-counts : tie.Need-sub-counts Inv-loop μ-loop
 sub-counts c = omega (arith, c .before .before .before .before .push-around .ensures .next)
 
 mul-counts-2 : tie.Need-mul-counts-2 Inv-loop μ-loop
-mul-counts-2 c =
-    let s = c .before .before .before .before .before .before .before .before .before .before .before .before .before in
-    omega (arith, s .pre .1 .0, s .pre .0 .coarse-held .most)
+mul-counts-2 c = omega (arith, c .before .before .before .before .before .before .before .before .before .before .before .before .before .before .pre .1 .0, c .before .before .before .before .before .before .before .before .before .before .before .before .before .before .pre .0 .coarse-held .most)
 
 slice-write-counts : tie.Need-slice-write-counts Inv-loop μ-loop
-slice-write-counts c =
-    let l = c .before .before .before .before .before .before .before .before in
-    let s = l .before .before .before .before .before in
-    omega (arith, s .pre .1 .0, s .pre .0 .coarse-held .most, l .loop .inv .1 .counts-long, s .pre .1 .1 .2)
+slice-write-counts c = omega (arith, c .before .before .before .before .before .before .before .before .before .before .before .before .before .before .pre .1 .0, c .before .before .before .before .before .before .before .before .before .before .before .before .before .before .pre .0 .coarse-held .most, c .before .before .before .before .before .before .before .before .before .loop .inv .1 .counts-long, c .before .before .before .before .before .before .before .before .before .before .before .before .before .before .pre .1 .1 .2)
 
 add-m : tie.Need-add-m Inv-loop μ-loop
 add-m c = search needs
@@ -69,11 +55,7 @@ loop-less : tie.Need-loop-less Inv-loop μ-loop
 loop-less c = search needs
 
 loop-again : tie.Need-loop-again Inv-loop μ-loop
-loop-again c =
-    let l = c .before .before .before .before .before .before .before in
-    let l′ = l .before in
-    let s = l′ .before .before .before .before .before in
-    (omega arith, axis-turn (s .pre .0) (s .pre .1 .0) (s .pre .1 .1) (l′ .loop .inv .1) (l .loop-test .taken) (c .before .before .before .before .push-around .ensures))
+loop-again c = (omega arith, axis-turn (c .before .before .before .before .before .before .before .before .before .before .before .before .before .before .pre .0) (c .before .before .before .before .before .before .before .before .before .before .before .before .before .before .pre .1 .0) (c .before .before .before .before .before .before .before .before .before .before .before .before .before .before .pre .1 .1) (c .before .before .before .before .before .before .before .before .before .loop .inv .1) (c .before .before .before .before .before .before .before .before .loop-test .taken) (c .before .before .before .before .push-around .ensures))
 
 same-length : tie.Need-same-length Inv-loop μ-loop
 same-length c = c .before .loop .inv .1 .nodes-long
@@ -97,6 +79,7 @@ axis-hats-spec =
     loop-holds
     mul-b
     add-b
+    slice-aggregate-push-around
     mul-push-around
     push-around-requires
     mul-counts

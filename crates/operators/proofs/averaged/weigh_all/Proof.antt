@@ -1,7 +1,7 @@
 -- `operators::averaged::weigh_all` meets its contract. The invariant (`Adding`): the rest of the hats comes to the whole.
 -- Assumes nothing.
 use Prim.Native.Nat.{_-_}
-use Rattle.weights.specs.Tables.{readFrom}
+use Rattle.numbers.specs.Lists.{readFrom}
 use Rattle.operators.specs.Averaged.{weighAll, nothing, hatAt, hatsIn}
 use Rattle.operators.proofs.AverageLaws.{Adding, adding-start, adding-turn, adding-end, all-fold, nothing-is}
 use borrow.Author.Needs.{needs}

@@ -2,7 +2,7 @@
 -- Assumes nothing.
 use Prim.Native.Nat.{_-_}
 use mathlib.Core.Path.{refl}
-use Rattle.weights.specs.Tables.{readFrom}
+use Rattle.numbers.specs.Lists.{readFrom}
 use Rattle.operators.specs.Averaged.{weighLines, hatAt}
 use Rattle.operators.proofs.AverageLaws.{Adding, adding-start, adding-turn, adding-end, lines-fold}
 use borrow.Author.Needs.{needs}

@@ -5,19 +5,20 @@ use mathlib.Core.Path.{_≡_}
 use native.Mathlib.Omega.{arith}
 use borrow.Author.Needs.{needs}
 use Rattle.operators.specs.Numbered.{nameNo}
-use Rattle.operators.specs.Base.{baseOf, Word}
-use Rattle.operators.proofs.BaseLaws.{word-none, word-turn}
+use Rattle.operators.specs.Base.{baseOf, baseWord}
+use Rattle.operators.specs.Bits.{single, gathered}
+use Rattle.operators.proofs.WordLaws.{gathered-none, gathered-turn}
 use Rattle.operators.proofs.base.base_word.Statement.{statement}
 use Rattle.operators.proofs.base.base_word.Tie as tie
 
 abbrev Inv-loop : tie.InvT-loop
-Inv-loop n bloch w i set₀ j₀ set j = (j ≤ n) × Word (baseOf n bloch (nameNo w)) i j set
+Inv-loop n bloch w i set₀ j₀ set j = (j ≤ n) × (set ≡ gathered j (baseOf n bloch (nameNo w) i) single)
 
 abbrev μ-loop : tie.MeasureT-loop
 μ-loop n bloch w i set₀ j₀ set j = n - j
 
 loop-holds : tie.Need-loop-holds Inv-loop μ-loop
-loop-holds c = (omega arith, word-none)
+loop-holds c = (omega arith, gathered-none _ single)
 
 related-requires : tie.Need-related-requires Inv-loop μ-loop
 related-requires c κs = search needs
@@ -37,9 +38,10 @@ loop-less c = search needs
 loop-again : tie.Need-loop-again Inv-loop μ-loop
 loop-again c =
     let r = c .before .before in
-    (omega arith, word-turn _ (r .before .before .loop .inv .1) (r .related .ensures) (c .before .unit .ensures) (c .mix .ensures))
+    (omega arith, gathered-turn _ single (r .before .before .loop .inv .1) (r .related .ensures) (c .before .unit .ensures) (c .mix .ensures))
 
 returns : tie.Need-returns Inv-loop μ-loop
+unfolding baseWord
 returns c =
     let e : c .before .loop .j ≡ c .before .before .args .n = omega arith in
     rw e at (c .before .loop .inv .1)

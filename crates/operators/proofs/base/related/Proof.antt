@@ -1,172 +1,115 @@
 -- `operators::base::related` meets its contract.
 -- Assumes nothing.
-use mathlib.Core.Path.{_≡_}
+use Prim.Native.Nat.{_-_}
+use mathlib.Core.Path.{_≡_, refl, _∙_}
+use mathlib.Core.Bool.{_&&_}
+use mathlib.Core.Logic.{⊎-elim}
 use native.Mathlib.Omega.{arith}
 use borrow.Author.Needs.{needs}
-use Rattle.operators.specs.Base.{baseOf}
+use Rattle.lattice.proofs.NeighbourLaws.{or-first, or-next}
+use Rattle.operators.specs.Base.{liveAt}
+use Rattle.operators.specs.Numbered.{roleNo}
+use Rattle.operators.proofs.BaseLaws.{same-related, near-related, up-related, down-related}
+use Rattle.numbers.proofs.StartLaws.{and-first, and-next}
 use Rattle.operators.proofs.base.related.Statement.{statement}
 use Rattle.operators.proofs.base.related.Tie as tie
 
-after-requires : tie.Need-after-requires
-after-requires c κs = search needs
+-- the start, from behind the tests of both places
+abbrev first : tie.Joined4 → tie.Start
+first c = c .before .before .before .before .before .before
 
-after-requires-2 : tie.Need-after-requires-2
-after-requires-2 c κs = search needs
+-- neither place is fixed
+lives : (c : tie.Joined4)
+    → c .if4 .if5
+    ≡ (liveAt (first c .args .bloch) (roleNo (first c .args .w - 2)) (first c .args .i)
+    && liveAt (first c .args .bloch) (roleNo (first c .args .w - 2)) (first c .args .j))
+lives c =
+    ⊎-elim
+    (λ w. and-next _ _ (w .0 .taken) (c .before .live2 .ensures) (w .2 ∙ w .1 .ensures))
+    (λ w. and-first _ _ (w .1 ∙ w .0 .left) (w .1 ∙ c .before .live2 .ensures))
+    (c .if4 .came)
+
+follows-requires : tie.Need-follows-requires
+follows-requires c κs = search needs
+
+follows-requires-2 : tie.Need-follows-requires-2
+follows-requires-2 c κs = search needs
 
 live-requires : tie.Need-live-requires
 live-requires c κs = search needs
 
-both-requires : tie.Need-both-requires
-both-requires c κs = search needs
-
 returns : tie.Need-returns
-unfolding baseOf
-returns c = rw (c .before .before .if1 .taken, c .both .ensures, c .before .live .ensures)
+returns c = and-next _ _ (c .if2 .taken) (c .before .live .ensures) refl ∙ same-related _ _ _ _ _ (c .before .before .if1 .taken)
+
+returns-2 : tie.Need-returns-2
+returns-2 c = and-first _ _ (c .if2 .left) (c .before .live .ensures) ∙ same-related _ _ _ _ _ (c .before .before .if1 .taken)
 
 live-requires-2 : tie.Need-live-requires-2
 live-requires-2 c κs = search needs
 
-both-requires-2 : tie.Need-both-requires-2
-both-requires-2 c κs = search needs
-
-returns-2 : tie.Need-returns-2
-unfolding baseOf
-returns-2 c = rw (c .before .before .if2 .taken, c .both2 .ensures, c .before .live2 .ensures)
-
 live-requires-3 : tie.Need-live-requires-3
 live-requires-3 c κs = search needs
+
+returns-3 : tie.Need-returns-3
+returns-3 c = and-next _ _ (c .before .if5 .taken) (lives (c .before .before)) (or-first _ _ (c .if6 .taken) refl) ∙ near-related _ _ _ _ _ (c .before .before .before .before .before .if1 .left) (c .before .before .before .before .if3 .taken)
+
+returns-4 : tie.Need-returns-4
+returns-4 c =
+    and-next _ _ (c .before .before .if5 .taken) (lives (c .before .before .before)) (or-next _ _ (c .before .if6 .left) refl (or-first _ _ (c .if7 .taken) (c .before .before .before .before .before .before .before .before .follows .ensures))) ∙ near-related _ _ _ _ _ (c .before .before .before .before .before .before .if1 .left) (c .before .before .before .before .before .if3 .taken)
+
+returns-5 : tie.Need-returns-5
+returns-5 c =
+    and-next _ _ (c .before .before .if5 .taken) (lives (c .before .before .before)) (or-next _ _ (c .before .if6 .left) refl (or-next _ _ (c .if7 .left) (c .before .before .before .before .before .before .before .before .follows .ensures) (c .before .before .before .before .before .before .before .follows2 .ensures))) ∙ near-related _ _ _ _ _ (c .before .before .before .before .before .before .if1 .left) (c .before .before .before .before .before .if3 .taken)
+
+returns-6 : tie.Need-returns-6
+returns-6 c = and-first _ _ (c .if5 .left) (lives (c .before)) ∙ near-related _ _ _ _ _ (c .before .before .before .before .if1 .left) (c .before .before .before .if3 .taken)
 
 live-requires-4 : tie.Need-live-requires-4
 live-requires-4 c κs = search needs
 
-both-requires-3 : tie.Need-both-requires-3
-both-requires-3 c κs = search needs
+returns-7 : tie.Need-returns-7
+returns-7 c = and-next _ _ (c .before .if9 .taken) (c .before .before .live4 .ensures) (or-first _ _ (c .if10 .taken) refl) ∙ up-related _ _ _ _ _ (c .before .before .before .if8 .taken)
 
-either-requires : tie.Need-either-requires
-either-requires c κs = search needs
+returns-8 : tie.Need-returns-8
+returns-8 c =
+    and-next _ _ (c .before .if9 .taken) (c .before .before .live4 .ensures) (or-next _ _ (c .if10 .left) refl (c .before .before .before .before .before .before .before .follows .ensures)) ∙ up-related _ _ _ _ _ (c .before .before .before .if8 .taken)
 
-either-requires-2 : tie.Need-either-requires-2
-either-requires-2 c κs = search needs
-
-both-requires-4 : tie.Need-both-requires-4
-both-requires-4 c κs = search needs
-
-returns-3 : tie.Need-returns-3
-unfolding baseOf
-returns-3 c =
-    let b = c .before .before .before in
-    let l = b .before .before .before in
-    let s = l .before .before .before in
-    rw (
-      l .if3 .taken,
-      c .both4 .ensures,
-      c .before .either2 .ensures,
-      c .before .before .either .ensures,
-      b .both3 .ensures,
-      b .before .live4 .ensures,
-      b .before .before .live3 .ensures,
-      s .after2 .ensures,
-      s .before .after .ensures,
-    )
+returns-9 : tie.Need-returns-9
+returns-9 c = and-first _ _ (c .if9 .left) (c .before .live4 .ensures) ∙ up-related _ _ _ _ _ (c .before .before .if8 .taken)
 
 live-requires-5 : tie.Need-live-requires-5
 live-requires-5 c κs = search needs
 
-live-requires-6 : tie.Need-live-requires-6
-live-requires-6 c κs = search needs
+returns-10 : tie.Need-returns-10
+returns-10 c = and-next _ _ (c .before .if11 .taken) (c .before .before .live5 .ensures) (or-first _ _ (c .if12 .taken) refl) ∙ down-related _ _ (c .before .before .before .before .before .before .before .before .args .w) _ _ (omega arith)
 
-both-requires-5 : tie.Need-both-requires-5
-both-requires-5 c κs = search needs
+returns-11 : tie.Need-returns-11
+returns-11 c =
+    and-next _ _ (c .before .if11 .taken) (c .before .before .live5 .ensures) (or-next _ _ (c .if12 .left) refl (c .before .before .before .before .before .before .follows2 .ensures)) ∙ down-related _ _ (c .before .before .before .before .before .before .before .before .args .w) _ _ (omega arith)
 
-either-requires-3 : tie.Need-either-requires-3
-either-requires-3 c κs = search needs
-
-either-requires-4 : tie.Need-either-requires-4
-either-requires-4 c κs = search needs
-
-both-requires-6 : tie.Need-both-requires-6
-both-requires-6 c κs = search needs
-
-returns-4 : tie.Need-returns-4
-unfolding baseOf
-returns-4 c =
-    let b = c .before .before .before in
-    let l = b .before .before .before in
-    let s = l .before .before .before .before in
-    rw (
-      l .if4 .taken,
-      c .both6 .ensures,
-      c .before .either4 .ensures,
-      c .before .before .either3 .ensures,
-      b .both5 .ensures,
-      b .before .live6 .ensures,
-      b .before .before .live5 .ensures,
-      s .after2 .ensures,
-      s .before .after .ensures,
-    )
-
-live-requires-7 : tie.Need-live-requires-7
-live-requires-7 c κs = search needs
-
-either-requires-5 : tie.Need-either-requires-5
-either-requires-5 c κs = search needs
-
-both-requires-7 : tie.Need-both-requires-7
-both-requires-7 c κs = search needs
-
-returns-5 : tie.Need-returns-5
-unfolding baseOf
-returns-5 c =
-    let l = c .before .before .before in
-    rw (l .if5 .taken, c .both7 .ensures, c .before .either5 .ensures, c .before .before .live7 .ensures, l .before .before .before .before .before .before .after .ensures)
-
-live-requires-8 : tie.Need-live-requires-8
-live-requires-8 c κs = search needs
-
-either-requires-6 : tie.Need-either-requires-6
-either-requires-6 c κs = search needs
-
-both-requires-8 : tie.Need-both-requires-8
-both-requires-8 c κs = search needs
-
-returns-6 : tie.Need-returns-6
-unfolding baseOf
-returns-6 c =
-    let a = c .before .before .before .before .before .before .before .before in
-    let f : a .before .before .args .w ≡ 5 = omega arith in
-    rw (f, c .both8 .ensures, c .before .either6 .ensures, c .before .before .live8 .ensures, a .after2 .ensures)
+returns-12 : tie.Need-returns-12
+returns-12 c = and-first _ _ (c .if11 .left) (c .before .live5 .ensures) ∙ down-related _ _ (c .before .before .before .before .before .before .before .args .w) _ _ (omega arith)
 
 pub related-spec : {M : Type 1} → statement M
 related-spec =
     tie.close
     (tie.spec
-    after-requires
-    after-requires-2
+    follows-requires
+    follows-requires-2
     live-requires
-    both-requires
     returns
-    live-requires-2
-    both-requires-2
     returns-2
+    live-requires-2
     live-requires-3
-    live-requires-4
-    both-requires-3
-    either-requires
-    either-requires-2
-    both-requires-4
     returns-3
-    live-requires-5
-    live-requires-6
-    both-requires-5
-    either-requires-3
-    either-requires-4
-    both-requires-6
     returns-4
-    live-requires-7
-    either-requires-5
-    both-requires-7
     returns-5
-    live-requires-8
-    either-requires-6
-    both-requires-8
-    returns-6)
+    returns-6
+    live-requires-4
+    returns-7
+    returns-8
+    returns-9
+    live-requires-5
+    returns-10
+    returns-11
+    returns-12)

@@ -1,22 +1,22 @@
 -- `operators::compose::compose` meets its contract. The invariant: the first c words are filled.
 -- Assumes nothing.
 use Prim.Native.Nat.{_-_, _≤_}
-use mathlib.Core.Path.{_≡_}
 use native.Mathlib.Omega.{arith}
 use borrow.Author.Needs.{needs}
-use Rattle.operators.specs.Compose.{table, composed, Filled}
-use Rattle.operators.proofs.ComposeLaws.{filled-none, compose-turn}
+use Rattle.operators.specs.Compose.{wordsAt, composedWord}
+use Rattle.operators.proofs.ComposeLaws.{word-composed}
+use Rattle.operators.proofs.TableLaws.{Filling, filling-start, filling-turn, filling-end}
 use Rattle.operators.proofs.compose.compose.Statement.{statement}
 use Rattle.operators.proofs.compose.compose.Tie as tie
 
 abbrev Inv-loop : tie.InvT-loop
-Inv-loop f fat r rat g gat n m out₀ at c₀ out c = (c ≤ m) × Filled (composed n (table f fat) (table r rat) (table g gat)) at c out₀ out
+Inv-loop f fat r rat g gat n m out₀ at c₀ out c = (c ≤ m) × Filling (composedWord n (wordsAt f fat) (wordsAt r rat) (wordsAt g gat)) m out₀ at c out
 
 abbrev μ-loop : tie.MeasureT-loop
 μ-loop f fat r rat g gat n m out₀ at c₀ out c = m - c
 
 loop-holds : tie.Need-loop-holds Inv-loop μ-loop
-loop-holds c = (omega arith, filled-none)
+loop-holds c = (omega arith, filling-start)
 
 turned-word-requires : tie.Need-turned-word-requires Inv-loop μ-loop
 turned-word-requires c κs = search needs
@@ -42,16 +42,14 @@ loop-less c = search needs
 loop-again : tie.Need-loop-again Inv-loop μ-loop
 loop-again c = (
   omega arith,
-  compose-turn _ _ _ _ _ _ _ _ (c .before .before .before .loop .inv .1) (omega arith) (c .before .turned-word .ensures) (c .through-word .ensures),
+  filling-turn (c .before .before .before .loop .inv .1) (c .before .before .loop-test .taken) (word-composed _ _ _ _ _ (c .before .turned-word .ensures) (c .through-word .ensures)),
 )
 
 same-length : tie.Need-same-length Inv-loop μ-loop
 same-length c = search needs
 
 returns : tie.Need-returns Inv-loop μ-loop
-returns c =
-    let e : c .before .loop .c ≡ c .before .before .before .before .before .before .args .m = omega arith in
-    rw e at (c .before .loop .inv .1)
+returns c = filling-end (c .before .loop .inv .1) (c .loop-test .left)
 
 pub compose-spec : {M : Type 1} → statement M
 compose-spec =

@@ -1,23 +1,23 @@
 -- `operators::compose::through_word` meets its contract. The invariant: the word has what the first k places bring.
 -- Assumes nothing.
 use Prim.Native.Nat.{_-_, _≤_}
-use mathlib.Core.Path.{_≡_}
+use mathlib.Core.Path.{_≡_, refl}
 use native.Mathlib.Omega.{arith}
 use borrow.Author.Needs.{needs}
-use Rattle.operators.specs.Bits.{bitAt}
-use Rattle.operators.specs.Compose.{table, Gathers}
-use Rattle.operators.proofs.ComposeLaws.{gathers-none, through-turn}
+use Rattle.operators.specs.Bits.{bitAt, gathered}
+use Rattle.operators.specs.Compose.{wordsAt}
+use Rattle.operators.proofs.WordLaws.{gathered-none, gathered-turn}
 use Rattle.operators.proofs.compose.through_word.Statement.{statement}
 use Rattle.operators.proofs.compose.through_word.Tie as tie
 
 abbrev Inv-loop : tie.InvT-loop
-Inv-loop u g gat n w₀ k₀ w k = (k ≤ n) × Gathers w k (bitAt u) (table g gat)
+Inv-loop u g gat n w₀ k₀ w k = (k ≤ n) × (w ≡ gathered k (bitAt u) (wordsAt g gat))
 
 abbrev μ-loop : tie.MeasureT-loop
 μ-loop u g gat n w₀ k₀ w k = n - k
 
 loop-holds : tie.Need-loop-holds Inv-loop μ-loop
-loop-holds c = (omega arith, gathers-none)
+loop-holds c = (omega arith, gathered-none _ _)
 
 bit-requires : tie.Need-bit-requires Inv-loop μ-loop
 bit-requires c κs = search needs
@@ -41,7 +41,7 @@ loop-less : tie.Need-loop-less Inv-loop μ-loop
 loop-less c = search needs
 
 loop-again : tie.Need-loop-again Inv-loop μ-loop
-loop-again c = (omega arith, through-turn _ _ _ (c .before .before .before .before .loop .inv .1) (c .before .before .bit .ensures) (c .mix .ensures))
+loop-again c = (omega arith, gathered-turn _ _ (c .before .before .before .before .loop .inv .1) (c .before .before .bit .ensures) refl (c .mix .ensures))
 
 returns : tie.Need-returns Inv-loop μ-loop
 returns c =

@@ -1,22 +1,24 @@
 -- `operators::compose::turned_word` meets its contract. The invariant: the word has what the first k places bring.
 -- Assumes nothing.
 use Prim.Native.Nat.{_-_, _≤_}
-use mathlib.Core.Path.{_≡_}
+use mathlib.Core.Path.{_≡_, refl}
 use native.Mathlib.Omega.{arith}
 use borrow.Author.Needs.{needs}
-use Rattle.operators.specs.Compose.{table, columnOf, Gathers}
-use Rattle.operators.proofs.ComposeLaws.{gathers-none, turned-turn}
+use Rattle.operators.specs.Compose.{wordsAt, bitsOf}
+use Rattle.operators.specs.Bits.{gathered}
+use Rattle.operators.specs.Relation.{turned}
+use Rattle.operators.proofs.WordLaws.{gathered-none, gathered-turn}
 use Rattle.operators.proofs.compose.turned_word.Statement.{statement}
 use Rattle.operators.proofs.compose.turned_word.Tie as tie
 
 abbrev Inv-loop : tie.InvT-loop
-Inv-loop f fat r rat n c w₀ k₀ w k = (k ≤ n) × Gathers w k (columnOf f fat c) (table r rat)
+Inv-loop f fat r rat n c w₀ k₀ w k = (k ≤ n) × (w ≡ gathered k (turned (bitsOf (wordsAt f fat)) c) (wordsAt r rat))
 
 abbrev μ-loop : tie.MeasureT-loop
 μ-loop f fat r rat n c w₀ k₀ w k = n - k
 
 loop-holds : tie.Need-loop-holds Inv-loop μ-loop
-loop-holds c = (omega arith, gathers-none)
+loop-holds c = (omega arith, gathered-none _ _)
 
 add-bit : tie.Need-add-bit Inv-loop μ-loop
 add-bit c = search needs
@@ -49,7 +51,7 @@ loop-less : tie.Need-loop-less Inv-loop μ-loop
 loop-less c = search needs
 
 loop-again : tie.Need-loop-again Inv-loop μ-loop
-loop-again c = (omega arith, turned-turn _ _ _ _ _ (c .before .before .before .before .before .loop .inv .1) (c .before .before .bit .ensures) (c .mix .ensures))
+loop-again c = (omega arith, gathered-turn _ _ (c .before .before .before .before .before .loop .inv .1) (c .before .before .bit .ensures) refl (c .mix .ensures))
 
 returns : tie.Need-returns Inv-loop μ-loop
 returns c =

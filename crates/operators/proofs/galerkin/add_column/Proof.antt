@@ -15,7 +15,7 @@ shared-slice-read-first : tie.Need-shared-slice-read-first
 shared-slice-read-first c = search needs
 
 add-first-2 : tie.Need-add-first-2
-add-first-2 c = omega (arith, bounds (c .before .before .before .before .before .before .before .pre .0) _ (c .before .before .before .before .before .before .before .pre .1) .rise, bounds (c .before .before .before .before .before .before .before .pre .0) _ (c .before .before .before .before .before .before .before .pre .1) .few, c .before .before .before .before .before .before .before .pre .0 .low)
+add-first-2 c = omega (arith, bounds (c .before .before .before .before .before .before .before .pre .stored) _ (c .before .before .before .before .before .before .before .pre .low) .rise, bounds (c .before .before .before .before .before .before .before .pre .stored) _ (c .before .before .before .before .before .before .before .pre .low) .few, c .before .before .before .before .before .before .before .pre .stored .low)
 
 add-last : tie.Need-add-last
 add-last c = search needs
@@ -30,10 +30,10 @@ shared-slice-read-last : tie.Need-shared-slice-read-last
 shared-slice-read-last c = search needs
 
 add-last-3 : tie.Need-add-last-3
-add-last-3 c = omega (arith, bounds (c .before .before .before .before .before .before .before .before .before .before .pre .0) _ (c .before .before .before .before .before .before .before .before .before .before .pre .1) .few, c .before .before .before .before .before .before .before .before .before .before .pre .0 .low)
+add-last-3 c = omega (arith, bounds (c .before .before .before .before .before .before .before .before .before .before .pre .stored) _ (c .before .before .before .before .before .before .before .before .before .before .pre .low) .rise, bounds (c .before .before .before .before .before .before .before .before .before .before .pre .stored) _ (c .before .before .before .before .before .before .before .before .before .before .pre .low) .few, c .before .before .before .before .before .before .before .before .before .before .pre .stored .low)
 
 add-forward-requires : tie.Need-add-forward-requires
-add-forward-requires c κs = (omega (arith, bounds (c .before .before .before .before .before .before .before .before .before .before .before .pre .0) _ (c .before .before .before .before .before .before .before .before .before .before .before .pre .1) .room), omega (arith, bounds (c .before .before .before .before .before .before .before .before .before .before .before .pre .0) _ (c .before .before .before .before .before .before .before .before .before .before .before .pre .1) .numbers))
+add-forward-requires c κs = (omega (arith, bounds (c .before .before .before .before .before .before .before .before .before .before .before .pre .stored) _ (c .before .before .before .before .before .before .before .before .before .before .before .pre .low) .room), omega (arith, bounds (c .before .before .before .before .before .before .before .before .before .before .before .pre .stored) _ (c .before .before .before .before .before .before .before .before .before .before .before .pre .low) .numbers))
 
 same-length : tie.Need-same-length
 same-length c = search needs

@@ -1,16 +1,16 @@
-use Rattle.operators.proofs.GatherLaws.{place-below, count-gathered}
 use borrow.Author.Needs.{needs}
 use Prim.Native.Nat.{_-_}
-use Rattle.operators.proofs.GatherLaws.{Adding, adding-start, adding-turn, adding-end}
+use Rattle.operators.proofs.GatherLaws.{row-there, count-gathered, Adding, adding-start, adding-turn, adding-end}
 use Rattle.operators.specs.Galerkin.{scaledTerm, rowsIn, forwardTerm, forwardTerms}
 use Rattle.operators.proofs.galerkin.add_fine.Statement.{statement}
 use Rattle.operators.proofs.galerkin.add_fine.Tie as tie
 
 abbrev Inv-loop : tie.InvT-loop
-Inv-loop w cs xs at count p starts columns values n m sums₀ last q₀ sums q = Adding (forwardTerms (rowsIn p starts columns values) w) cs xs at last sums₀ sums q
+Inv-loop w cs xs at count p starts columns values sums₀ last q₀ sums q =
+    Adding (forwardTerms (rowsIn p starts columns values) w) cs xs at last sums₀ sums q
 
 abbrev μ-loop : tie.MeasureT-loop
-μ-loop w cs xs at count p starts columns values n m sums₀ last q₀ sums q = last - q
+μ-loop w cs xs at count p starts columns values sums₀ last q₀ sums q = last - q
 
 add-last : tie.Need-add-last Inv-loop μ-loop
 add-last c = search needs
@@ -31,7 +31,7 @@ shared-slice-read-add-column : tie.Need-shared-slice-read-add-column Inv-loop μ
 shared-slice-read-add-column c = search needs
 
 add-column-requires : tie.Need-add-column-requires Inv-loop μ-loop
-add-column-requires c κs = (c .before .before .before .before .before .before .before .before .before .before .before .before .pre .1 .1, place-below (c .before .before .before .before .before .before .before .before .before .before .before .before .pre .1 .0) (c .before .before .before .before .before .loop .inv .low) (c .before .before .before .before .loop-test .taken))
+add-column-requires c κs = row-there (c .before .before .before .before .before .before .before .before .before .before .before .before .pre .1) (c .before .before .before .before .before .loop .inv .low) (c .before .before .before .before .loop-test .taken)
 
 add-q : tie.Need-add-q Inv-loop μ-loop
 add-q c = search needs

@@ -1,14 +1,16 @@
 -- `operators::pattern::forward_word` meets its contract. The invariant: the word has the first d places of the slot.
 -- Assumes nothing.
 use Prim.Native.Nat.{_-_, _≤_}
+use mathlib.Core.Path.{_≡_, refl, _∙_}
 use native.Mathlib.Omega.{arith}
 use borrow.Author.Needs.{needs}
-use Rattle.operators.proofs.LevelTableLaws.{Placed, placed-none, placed-turn, placed-whole}
+use Rattle.operators.proofs.LevelTableLaws.{placed, placed-whole}
+use Rattle.operators.proofs.WordLaws.{gathered-none, gathered-turn}
 use Rattle.operators.proofs.pattern.forward_word.Statement.{statement}
 use Rattle.operators.proofs.pattern.forward_word.Tie as tie
 
 abbrev Inv-loop : tie.InvT-loop
-Inv-loop ps ns q n w₀ d₀ w d = (n ≤ 2) × (d ≤ n) × Placed ps q d w
+Inv-loop ps ns q n w₀ d₀ w d = (n ≤ 2) × (d ≤ n) × (w ≡ placed ps ns q d)
 
 abbrev μ-loop : tie.MeasureT-loop
 μ-loop ps ns q n w₀ d₀ w d = n - d
@@ -20,7 +22,7 @@ shared-slice-read-n : tie.Need-shared-slice-read-n Inv-loop μ-loop
 shared-slice-read-n c = search needs
 
 loop-holds : tie.Need-loop-holds Inv-loop μ-loop
-loop-holds c = let s = c .before .before .before in (s .pre .0 .few _ (s .pre .1), omega arith, placed-none)
+loop-holds c = let s = c .before .before .before in (s .pre .0 .few _ (s .pre .1), omega arith, gathered-none _ _)
 
 mul-unit : tie.Need-mul-unit Inv-loop μ-loop
 mul-unit c = search needs
@@ -47,10 +49,10 @@ loop-less : tie.Need-loop-less Inv-loop μ-loop
 loop-less c = search needs
 
 loop-again : tie.Need-loop-again Inv-loop μ-loop
-loop-again c = let l = c .before .before .before .before in (l .loop .inv .0, omega arith, placed-turn _ (l .loop .inv .2) (c .before .unit .ensures) (c .mix .ensures))
+loop-again c = let l = c .before .before .before .before in (l .loop .inv .0, omega arith, gathered-turn _ _ (l .loop .inv .2) refl (c .before .unit .ensures) (c .mix .ensures))
 
 returns : tie.Need-returns Inv-loop μ-loop
-returns c = placed-whole _ (c .before .loop .inv .2) (omega arith)
+returns c = c .before .loop .inv .2 ∙ placed-whole _ _ _ _ (omega arith)
 
 pub forward-word-spec : {M : Type 1} → statement M
 forward-word-spec =

@@ -6,10 +6,10 @@ use native.Mathlib.Omega.{arith}
 use borrow.Author.Needs.{needs}
 use lib.ListN.{set}
 use Rattle.lattice.specs.Grid.{unknownsOf}
-use Rattle.lattice.specs.Lattice.{medium}
+use Rattle.lattice.specs.Lattice.{fullLattice}
 use Rattle.lattice.proofs.GridLaws.{unknowns-most, at-inside}
-use Rattle.weights.proofs.ListLaws.{laid-same}
-use Rattle.weights.proofs.RowLaws.{Going, going-start, going-turn, going-end, going-same, Starting, starting-start, starting-turn, starting-end}
+use Rattle.numbers.proofs.ListLaws.{laid-same}
+use Rattle.numbers.proofs.RowLoops.{Going, going-start, going-turn, going-end, going-same, Starting, starting-start, starting-turn, starting-end}
 use Rattle.operators.specs.Levels.{patternRow}
 use Rattle.operators.proofs.LevelTableLaws.{itself, row-laid, pattern-most}
 use Rattle.operators.proofs.pattern.level_columns.Statement.{statement}
@@ -17,7 +17,7 @@ use Rattle.operators.proofs.pattern.level_columns.Tie as tie
 
 abbrev Inv-loop : tie.InvT-loop
 Inv-loop l st g t starts₀ s columns₀ k n next₀ r₀ starts columns next r =
-    (n ≤ 12288) × Starting (patternRow (medium l st) g t) itself s starts₀ starts r × Going set (patternRow (medium l st) g t) itself 786432 n k columns₀ columns next r
+    (n ≤ 12288) × Starting (patternRow (fullLattice l st) g t) itself s starts₀ starts r × Going set (patternRow (fullLattice l st) g t) itself 786432 n k columns₀ columns next r
 
 abbrev μ-loop : tie.MeasureT-loop
 μ-loop l st g t starts₀ s columns₀ k n next₀ r₀ starts columns next r = n - r

@@ -3,7 +3,7 @@
 use Prim.Native.Nat.{_-_, _≤_}
 use native.Mathlib.Omega.{arith}
 use borrow.Author.Needs.{needs}
-use Rattle.lattice.specs.Lattice.{medium}
+use Rattle.lattice.specs.Lattice.{fullLattice}
 use Rattle.lattice.proofs.GridLaws.{unknowns-most, at-inside}
 use Rattle.operators.specs.Levels.{patternRow}
 use Rattle.operators.proofs.LevelTableLaws.{Counted, counted-none, counted-turn, counted-end, counted-most, columns-most, pattern-most, pattern-length}
@@ -11,7 +11,7 @@ use Rattle.operators.proofs.pattern.level_count.Statement.{statement}
 use Rattle.operators.proofs.pattern.level_count.Tie as tie
 
 abbrev Inv-loop : tie.InvT-loop
-Inv-loop l st g t n count₀ r₀ count r = (n ≤ 12288) × Counted (patternRow (medium l st) g t) n r count
+Inv-loop l st g t n count₀ r₀ count r = (n ≤ 12288) × Counted (patternRow (fullLattice l st) g t) n r count
 
 abbrev μ-loop : tie.MeasureT-loop
 μ-loop l st g t n count₀ r₀ count r = n - r

@@ -4,7 +4,9 @@ use Prim.Native.Nat.{ℕ}
 use denote.Ref.{now}
 use borrow.Author.Needs.{needs}
 use lib.ListN.{length-replicate}
-use Rattle.lattice.specs.Lattice.{medium}
+use Rattle.lattice.specs.Lattice.{fullLattice}
+use Rattle.numbers.proofs.ListLaws.{long-as}
+use Rattle.operators.specs.Levels.{slotWordNo}
 use Rattle.weights.proofs.MeaningLaws.{Slotted, slotted}
 use Rattle.weights.proofs.SlotLaws.{Worked, coarse-in, values-are}
 use Rattle.operators.proofs.LevelTableLaws.{entries-of, ready-of, below-of}
@@ -17,7 +19,7 @@ first c = c .before .before .before .before .before .before
 
 -- the grids and the values' places
 levels : (c : tie.After-value-places2)
-    → Worked (medium (first c .args .l) (now (first c .args .st))) (first c .args .fine) (first c .args .coarse)
+    → Worked (fullLattice (first c .args .l) (now (first c .args .st))) (first c .args .fine) (first c .args .coarse)
     (c .before .before .before .grid-of .result) (c .before .before .grid-of2 .result)
     (c .before .value-places .result) (c .value-places2 .result)
 levels c =
@@ -35,7 +37,7 @@ lines c = c .before .before .before .before .before .before
 
 -- the slots
 slots : (c : tie.After-counts)
-    → Slotted (medium (first (lines c) .args .l) (now (first (lines c) .args .st))) (first (lines c) .args .fine) (first (lines c) .args .coarse)
+    → Slotted (fullLattice (first (lines c) .args .l) (now (first (lines c) .args .st))) (first (lines c) .args .fine) (first (lines c) .args .coarse)
     (lines c .before .before .before .grid-of .result) (lines c .before .before .grid-of2 .result)
     (c .before .before .before .places .result) (c .counts .result)
 slots c = slotted (levels (lines c)) (c .counts .ensures) (c .before .before .before .places .ensures)
@@ -94,10 +96,10 @@ slice-aggregate-coarsen-4 c = search needs
 coarsen-requires : tie.Need-coarsen-requires
 coarsen-requires c κs =
     let n = c .before .before .before .before .before .before .before in
-    ready-of (slots n) (first (lines n) .pre .1) (c .before .before .before .before .forward-words .ensures .0) (length-replicate {A = ℕ} 1152 0)
+    ready-of (slots n) (first (lines n) .pre .1) (long-as (slotWordNo _ _) 384 (c .before .before .before .before .forward-words .ensures)) (length-replicate {A = ℕ} 1152 0)
 
 returns : tie.Need-returns
-returns c = below-of (slots (c .before .before .before .before .before .before .before .before .before)) (c .before .before .before .before .before .before .forward-words .ensures .1) (c .before .coarsen .ensures)
+returns c = below-of (slots (c .before .before .before .before .before .before .before .before .before)) _ (c .before .before .before .before .before .before .forward-words .ensures) (c .before .coarsen .ensures)
 
 pub relations-below-spec : {M : Type 1} → statement M
 relations-below-spec =

@@ -6,10 +6,10 @@ use mathlib.Core.Path.{sym, _∙_}
 use mathlib.Core.Logic.{⊎-elim}
 use Rattle.numbers.proofs.Laws.{and-true, and-false}
 use native.Mathlib.Omega.{arith}
-use Rattle.lattice.specs.Lattice.{medium}
+use Rattle.lattice.specs.Lattice.{fullLattice}
 use Rattle.lattice.proofs.GridLaws.{unknowns-most}
-use Rattle.weights.specs.Tables.{readFrom}
-use Rattle.weights.proofs.ListLaws.{laid-same}
+use Rattle.numbers.specs.Lists.{readFrom}
+use Rattle.numbers.proofs.ListLaws.{laid-same}
 use Rattle.operators.specs.Stencil.{stencilRow}
 use Rattle.operators.proofs.StencilLaws.{Assembling, assembling-start, assembling-turn, assembling-end}
 use Rattle.operators.proofs.stencil.assembled.Statement.{statement}
@@ -18,7 +18,7 @@ use Rattle.operators.proofs.stencil.assembled.Tie as tie
 abbrev Inv-loop : tie.InvT-loop
 Inv-loop l st eps from starts₀ s columns₀ values₀ k n next₀ finite₀ r₀ starts columns values next finite r =
     (n ≤ 12288)
-    × Assembling (stencilRow (medium l st) (readFrom eps from)) n starts₀ s columns₀ values₀ k starts columns values next finite r
+    × Assembling (stencilRow (fullLattice l st) (readFrom eps from)) n starts₀ s columns₀ values₀ k starts columns values next finite r
 
 abbrev μ-loop : tie.MeasureT-loop
 μ-loop l st eps from starts₀ s columns₀ values₀ k n next₀ finite₀ r₀ starts columns values next finite r = n - r

@@ -2,7 +2,7 @@
 -- Assumes nothing.
 use native.Mathlib.Omega.{arith}
 use Rattle.lattice.proofs.RowLaws.{row-most}
-use Rattle.lattice.proofs.TermLaws.{read-back}
+use Rattle.numbers.proofs.TermLaws.{read-back}
 use Rattle.operators.proofs.StencilLaws.{unshifted-wrote}
 use borrow.Author.Needs.{needs}
 use Rattle.operators.proofs.stencil.unshifted_row.Statement.{statement}

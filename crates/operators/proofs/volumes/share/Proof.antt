@@ -2,7 +2,8 @@
 -- Assumes nothing.
 use Prim.Native.Nat.{_-_}
 use native.Mathlib.Omega.{arith}
-use Rattle.weights.specs.Tables.{readFrom}
+use Rattle.numbers.specs.Lists.{readFrom}
+use Rattle.numbers.proofs.Equations.{readFrom-is}
 use Rattle.operators.proofs.VolumeLaws.{Weighing, weighing-start, weighing-turn, weighing-end}
 use borrow.Author.Needs.{needs}
 use Rattle.operators.proofs.volumes.share.Statement.{statement}
@@ -48,8 +49,7 @@ loop-less : tie.Need-loop-less Inv-loop μ-loop
 loop-less c = search needs
 
 loop-again : tie.Need-loop-again Inv-loop μ-loop
-unfolding readFrom
-loop-again c = weighing-turn (c .before .before .before .before .before .before .loop .inv) (c .before .before .before .before .before .loop-test .taken) (c .before .before .before .get .ensures) (c .before .before .get2 .ensures) (c .before .mul .ensures) (c .add .ensures)
+loop-again c = weighing-turn (c .before .before .before .before .before .before .loop .inv) (c .before .before .before .before .before .loop-test .taken) (rw readFrom-is (c .before .before .before .get .ensures)) (c .before .before .get2 .ensures) (c .before .mul .ensures) (c .add .ensures)
 
 returns : tie.Need-returns Inv-loop μ-loop
 returns c = weighing-end (c .before .loop .inv) (c .loop-test .left)

@@ -2,7 +2,7 @@
 -- Assumes nothing.
 use Prim.Native.Nat.{_-_}
 use native.Mathlib.Omega.{arith}
-use Rattle.lattice.specs.Lattice.{medium}
+use Rattle.lattice.specs.Lattice.{fullLattice}
 use Rattle.lattice.proofs.GridLaws.{unknowns-most}
 use Rattle.operators.specs.Volumes.{volumeOf}
 use Rattle.operators.proofs.VolumeLaws.{Placing, placing-start, placing-turn, placing-long, placing-end, placing-finite}
@@ -11,7 +11,7 @@ use Rattle.operators.proofs.volumes.volumes.Statement.{statement}
 use Rattle.operators.proofs.volumes.volumes.Tie as tie
 
 abbrev Inv-loop : tie.InvT-loop
-Inv-loop l st scaling₀ k n r₀ scaling r = Placing (volumeOf (medium l st)) n k scaling₀ scaling r
+Inv-loop l st scaling₀ k n r₀ scaling r = Placing (volumeOf (fullLattice l st)) n k scaling₀ scaling r
 
 abbrev μ-loop : tie.MeasureT-loop
 μ-loop l st scaling₀ k n r₀ scaling r = n - r

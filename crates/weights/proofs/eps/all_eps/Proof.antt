@@ -1,11 +1,12 @@
 -- `weights::eps::all_eps` meets its contract. The invariant (`Chaining`): laying the rest gives the whole, and what is read is as it was.
 -- Assumes nothing.
-use Prim.Native.Nat.{_-_}
-use native.Mathlib.Omega.{arith}
-use Rattle.lattice.proofs.GridLaws.{unknowns-most}
-use Rattle.weights.specs.Tables.{coarseEpsIn, readFrom}
-use Rattle.weights.proofs.EpsLaws.{Chaining, chaining-start, chaining-turn, chaining-end, chaining-room}
 use borrow.Author.Needs.{needs}
+use Prim.Native.Nat.{_-_}
+use mathlib.Core.Path.{refl}
+use native.Mathlib.Omega.{arith}
+use Rattle.weights.specs.Tables.{coarseEpsIn}
+use Rattle.numbers.specs.Lists.{readFrom}
+use Rattle.weights.proofs.EpsLaws.{Chaining, chaining-start, chaining-turn, chaining-end, chaining-room}
 use Rattle.weights.proofs.eps.all_eps.Statement.{statement}
 use Rattle.weights.proofs.eps.all_eps.Tie as tie
 
@@ -21,18 +22,8 @@ unknowns-requires c κs = c .before .before .pre .0 .1
 loop-holds : tie.Need-loop-holds Inv-loop μ-loop
 loop-holds c = chaining-start
 
-coarse-eps-at-requires : tie.Need-coarse-eps-at-requires Inv-loop μ-loop
-coarse-eps-at-requires c κs =
-    let s = c .before .before .before .before .before .before in
-    (s .pre .0, (s .pre .1 .0, (chaining-room (s .pre .1 .1) (c .before .before .loop .inv), omega (arith, c .before .before .before .unknowns .ensures))))
-
-add-put : tie.Need-add-put Inv-loop μ-loop
-add-put c =
-    let s = c .before .before .before .before .before .before .before .before in
-    omega (arith, s .pre .1 .1 .low, unknowns-most (s .pre .0 .1), c .before .before .before .before .before .unknowns .ensures)
-
-put-requires : tie.Need-put-requires Inv-loop μ-loop
-put-requires c κs = search needs
+coarse-eps-row-requires : tie.Need-coarse-eps-row-requires Inv-loop μ-loop
+coarse-eps-row-requires c κs = (c .before .before .before .before .before .before .pre .0, (c .before .before .before .before .before .before .pre .1 .0, (chaining-room (c .before .before .before .before .before .before .pre .1 .1) (c .before .before .loop .inv), (omega (arith, c .before .before .before .unknowns .ensures), c .before .before .before .before .before .before .pre .1 .1 .low))))
 
 add-r : tie.Need-add-r Inv-loop μ-loop
 add-r c = search needs
@@ -41,11 +32,7 @@ loop-less : tie.Need-loop-less Inv-loop μ-loop
 loop-less c = search needs
 
 loop-again : tie.Need-loop-again Inv-loop μ-loop
-loop-again c =
-    let s = c .before .before .before .before .before .before .before .before .before .before .before in
-    chaining-turn (s .pre .0 .0) (s .pre .0 .1) (s .pre .1 .0) (s .pre .1 .1)
-    (c .before .before .before .before .before .before .before .loop .inv) (c .before .before .before .before .before .before .loop-test .taken)
-    (c .before .before .before .before .before .before .before .before .unknowns .ensures) (c .before .before .before .before .coarse-eps-at .ensures) (c .before .before .put .ensures)
+loop-again c = chaining-turn (c .before .before .before .before .before .before .before .before .before .pre .0 .0) (c .before .before .before .before .before .before .before .before .before .pre .0 .1) (c .before .before .before .before .before .before .before .before .before .pre .1 .0) (c .before .before .before .before .before .before .before .before .before .pre .1 .1) (c .before .before .before .before .before .loop .inv) (c .before .before .before .before .loop-test .taken) (c .before .before .before .before .before .before .unknowns .ensures) refl (c .before .before .coarse-eps-row .ensures .0)
 
 same-length : tie.Need-same-length Inv-loop μ-loop
 same-length c = c .before .loop .inv .long
@@ -61,9 +48,7 @@ all-eps-spec =
     μ-loop
     unknowns-requires
     loop-holds
-    coarse-eps-at-requires
-    add-put
-    put-requires
+    coarse-eps-row-requires
     add-r
     loop-less
     loop-again

@@ -1,6 +1,6 @@
 -- `weights::eps::coarse_eps` meets its contract.
 -- Assumes nothing.
-use Rattle.lattice.specs.Lattice.{medium}
+use Rattle.lattice.specs.Lattice.{fullLattice}
 use Rattle.weights.proofs.EpsLaws.{Chain, chain, fine-in, coarse-in, nested-in, chain-room, eps-laid, eps-room, eps-finite}
 use borrow.Author.Needs.{needs}
 use Rattle.weights.proofs.eps.coarse_eps.Statement.{statement}
@@ -9,7 +9,7 @@ use Rattle.weights.proofs.eps.coarse_eps.Tie as tie
 -- the grids and the nodes are those of the levels
 levels : (c : tie.After-nodes)
     → let a = c .before .before .before .before .before .args in
-    Chain (medium (a .l) (a .st .now)) (a .fine) (a .coarse) (c .before .before .grid-of .result) (c .before .grid-of2 .result) (c .nodes .result) (a .from) (a .to) (a .eps .now)
+    Chain (fullLattice (a .l) (a .st .now)) (a .fine) (a .coarse) (c .before .before .grid-of .result) (c .before .grid-of2 .result) (c .nodes .result) (a .from) (a .to) (a .eps .now)
 levels c =
     let s = c .before .before .before .before .before in
     chain (s .pre .0) (s .pre .1) (c .before .before .grid-of .ensures) (c .before .grid-of2 .ensures) (c .nodes .ensures)

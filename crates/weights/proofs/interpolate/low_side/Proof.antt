@@ -13,14 +13,14 @@ enum-told c = search needs
 enum-known-e : tie.Need-enum-known-e
 enum-known-e c = search needs
 
-sub-t9 : tie.Need-sub-t9
-sub-t9 c = search needs
+sub-t8 : tie.Need-sub-t8
+sub-t8 c = search needs
 
 inv-requires : tie.Need-inv-requires
 inv-requires c κs = search needs
 
-sub-t12 : tie.Need-sub-t12
-sub-t12 c = search needs
+sub-t10 : tie.Need-sub-t10
+sub-t10 c = search needs
 
 one-requires : tie.Need-one-requires
 one-requires c κs = search needs
@@ -43,9 +43,9 @@ low-side-spec =
     (tie.spec
     enum-told
     enum-known-e
-    sub-t9
+    sub-t8
     inv-requires
-    sub-t12
+    sub-t10
     one-requires
     returns
     returns-2

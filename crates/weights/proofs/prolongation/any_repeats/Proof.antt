@@ -3,9 +3,9 @@
 use Prim.Native.Nat.{_-_}
 use mathlib.Core.Path.{ap, _∙_}
 use native.Mathlib.Omega.{arith}
-use Rattle.weights.specs.Transfer.{someRepeats}
+use Rattle.numbers.specs.Lists.{someRepeats}
 use Rattle.weights.specs.Tables.{columnsRow}
-use Rattle.weights.proofs.RepeatLaws.{Passing, passing-start, passing-hit, passing-turn, passing-end}
+use Rattle.numbers.proofs.RepeatLaws.{Passing, passing-start, passing-hit, passing-turn, passing-end}
 use borrow.Author.Needs.{needs}
 use Rattle.weights.proofs.prolongation.any_repeats.Statement.{statement}
 use Rattle.weights.proofs.prolongation.any_repeats.Tie as tie

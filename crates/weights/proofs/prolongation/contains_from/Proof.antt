@@ -1,7 +1,7 @@
 -- `weights::prolongation::contains_from` meets its contract. The invariant (`Seeking`): the rest tells the same as the whole.
 -- Assumes nothing.
 use Prim.Native.Nat.{_-_}
-use Rattle.weights.proofs.RepeatLaws.{Seeking, seeking-start, seeking-hit, seeking-turn, seeking-end}
+use Rattle.numbers.proofs.RepeatLaws.{Seeking, seeking-start, seeking-hit, seeking-turn, seeking-end}
 use borrow.Author.Needs.{needs}
 use Rattle.weights.proofs.prolongation.contains_from.Statement.{statement}
 use Rattle.weights.proofs.prolongation.contains_from.Tie as tie

@@ -1,6 +1,6 @@
 use mathlib.Core.Path.{_∙_}
 use denote.Ref.{now}
-use Rattle.lattice.specs.Lattice.{medium}
+use Rattle.lattice.specs.Lattice.{fullLattice}
 use Rattle.weights.proofs.SlotLaws.{Worked, fine-in, coarse-in, values-are}
 use Rattle.weights.proofs.MeaningLaws.{Slotted, slotted, slots-in, repeats-same}
 use borrow.Author.Needs.{needs}
@@ -13,7 +13,7 @@ first c = c .before .before .before .before .before
 
 -- the grids and the values' places
 levels : (c : tie.After-value-places2)
-    → Worked (medium (first c .args .l) (now (first c .args .st))) (first c .args .fine) (first c .args .coarse)
+    → Worked (fullLattice (first c .args .l) (now (first c .args .st))) (first c .args .fine) (first c .args .coarse)
     (c .before .before .before .grid-of .result) (c .before .before .grid-of2 .result)
     (c .before .value-places .result) (c .value-places2 .result)
 levels c =
@@ -31,7 +31,7 @@ lines c = c .before .before .before .before .before .before
 
 -- the slots
 slots : (c : tie.After-places)
-    → Slotted (medium (first (lines c) .args .l) (now (first (lines c) .args .st))) (first (lines c) .args .fine) (first (lines c) .args .coarse)
+    → Slotted (fullLattice (first (lines c) .args .l) (now (first (lines c) .args .st))) (first (lines c) .args .fine) (first (lines c) .args .coarse)
     (lines c .before .before .before .grid-of .result) (lines c .before .before .grid-of2 .result)
     (c .places .result) (c .before .before .before .counts .result)
 slots c = slotted (levels (lines c)) (c .before .before .before .counts .ensures) (c .places .ensures)

@@ -1,7 +1,7 @@
 -- `weights::prolongation::repeats` meets its contract. The invariant (`Comparing`): the rest tells the same as the whole.
 -- Assumes nothing.
 use Prim.Native.Nat.{_-_}
-use Rattle.weights.proofs.RepeatLaws.{Comparing, comparing-start, comparing-hit, comparing-turn, comparing-end}
+use Rattle.numbers.proofs.RepeatLaws.{Comparing, comparing-start, comparing-hit, comparing-turn, comparing-end}
 use borrow.Author.Needs.{needs}
 use Rattle.weights.proofs.prolongation.repeats.Statement.{statement}
 use Rattle.weights.proofs.prolongation.repeats.Tie as tie

@@ -3,7 +3,8 @@
 use mathlib.Core.Path.{refl}
 use native.Mathlib.Omega.{arith}
 use Rattle.lattice.proofs.RowLaws.{at-in}
-use Rattle.weights.proofs.RepeatLaws.{place-small, row-room, row-repeated}
+use Rattle.weights.proofs.RowLaws.{place-small}
+use Rattle.weights.proofs.RepeatLaws.{row-room, row-repeated}
 use borrow.Author.Needs.{needs}
 use Rattle.weights.proofs.prolongation.row_repeats.Statement.{statement}
 use Rattle.weights.proofs.prolongation.row_repeats.Tie as tie

@@ -6,9 +6,9 @@ use Rattle.lattice.proofs.GridLaws.{unknowns-most}
 use mathlib.Core.Path.{_≡_, refl}
 use lib.ListN.{set}
 use Rattle.weights.specs.Tables.{columnsIn, columnsRow}
-use Rattle.weights.proofs.ListLaws.{laid-same}
-use Rattle.weights.proofs.RowLaws.{Going, going-start, going-turn, going-end, going-same}
-use Rattle.weights.proofs.RowLaws.{Starting, starting-start, starting-turn, starting-end, at-low, columns-most}
+use Rattle.numbers.proofs.ListLaws.{laid-same}
+use Rattle.numbers.proofs.RowLoops.{Going, going-start, going-turn, going-end, going-same, Starting, starting-start, starting-turn, starting-end}
+use Rattle.weights.proofs.RowLaws.{at-low, columns-most}
 use Rattle.weights.proofs.rows.all_columns.Statement.{statement}
 use Rattle.weights.proofs.rows.all_columns.Tie as tie
 

@@ -4,8 +4,10 @@ use native.Mathlib.Omega.{arith}
 use Rattle.lattice.specs.Grid.{atOf}
 use Rattle.lattice.proofs.GridLaws.{unknowns-most}
 use Rattle.numbers.specs.Places.{setNumber}
-use Rattle.weights.specs.Tables.{numbersIn, numbersRow, readFrom}
-use Rattle.weights.proofs.RowLaws.{Going, going-start, going-turn, going-end, going-numbers-same, at-low, numbers-most}
+use Rattle.weights.specs.Tables.{numbersIn, numbersRow}
+use Rattle.numbers.specs.Lists.{readFrom}
+use Rattle.numbers.proofs.RowLoops.{Going, going-start, going-turn, going-end, going-numbers-same}
+use Rattle.weights.proofs.RowLaws.{at-low, numbers-most}
 use Rattle.weights.proofs.rows.all_numbers.Statement.{statement}
 use Rattle.weights.proofs.rows.all_numbers.Tie as tie
 

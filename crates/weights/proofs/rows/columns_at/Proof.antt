@@ -1,16 +1,18 @@
 use borrow.Author.Needs.{needs}
-use Prim.Native.Nat.{_-_, _*_}
+use Prim.Native.Nat.{_-_}
 use mathlib.Core.Path.{refl}
 use native.Mathlib.Omega.{arith}
 use lib.ListN.{set}
-use Rattle.lattice.specs.Grid.{axis3, nOf}
+use Rattle.lattice.proofs.Equations.{nOf-0}
+use Rattle.numbers.specs.Lists.{entryAt}
 use Rattle.weights.specs.Tables.{columnsInY, columnsIn}
-use Rattle.weights.proofs.RowLaws.{AtSlot, slot-is, place-on, placeAt, slot-start, slot-turn, going-same, places-end, columns-y-most}
+use Rattle.numbers.proofs.RowLoops.{going-same}
+use Rattle.weights.proofs.RowLaws.{AtSlot, slot-is, place-on, slot-start, slot-turn, slot-end, columns-y-most}
 use Rattle.weights.proofs.rows.columns_at.Statement.{statement}
 use Rattle.weights.proofs.rows.columns_at.Tie as tie
 
 abbrev Inv-loop : tie.InvT-loop
-Inv-loop gc ps ns p from columns₀ q n k₀ d₀ columns k d = AtSlot set (columnsInY gc ps ns p) (placeAt ps (2 * q)) 0 4 q n from columns₀ columns k d
+Inv-loop gc ps ns p from columns₀ q n k₀ d₀ columns k d = AtSlot set (columnsInY gc ps ns p) (entryAt ps) 0 4 q n from columns₀ columns k d
 
 abbrev μ-loop : tie.MeasureT-loop
 μ-loop gc ps ns p from columns₀ q n k₀ d₀ columns k d = n - d
@@ -46,10 +48,9 @@ shared-slice-read-columns-y : tie.Need-shared-slice-read-columns-y Inv-loop μ-l
 shared-slice-read-columns-y c = search needs
 
 columns-y-requires : tie.Need-columns-y-requires Inv-loop μ-loop
-unfolding nOf axis3
 columns-y-requires c κs =
     let p = c .before .before .before .before .before .before .before .before .before .pre in
-    let h = place-on (p .1 .0) (c .before .before .before .loop .inv .slot) (c .before .before .loop-test .taken) in
+    let h = rw nOf-0 at (place-on (p .1 .0) (c .before .before .before .loop .inv .slot) (c .before .before .loop-test .taken)) in
     (p .0, (p .1 .0, (p .1 .1 .0, ((h, omega arith), omega arith))))
 
 add-d : tie.Need-add-d Inv-loop μ-loop
@@ -59,7 +60,6 @@ loop-less : tie.Need-loop-less Inv-loop μ-loop
 loop-less c = search needs
 
 loop-again : tie.Need-loop-again Inv-loop μ-loop
-unfolding placeAt
 loop-again c =
     let p = c .before .before .before .before .before .before .before .before .before .before .before .before .pre in
     let u = c .before .before .before .before .before .before .loop .inv in
@@ -73,7 +73,7 @@ returns : tie.Need-returns Inv-loop μ-loop
 unfolding columnsIn
 returns c =
     let ns = c .before .before .before .before .before .before .before .args .ns .now in
-    places-end _ ns _ (c .before .loop .inv) (c .loop-test .left) (c .before .before .before .slot-on .ensures) refl
+    slot-end ns (c .before .loop .inv) (c .loop-test .left) (c .before .before .before .slot-on .ensures) refl
 
 pub columns-at-spec : {M : Type 1} → statement M
 columns-at-spec =

@@ -1,18 +1,20 @@
 use borrow.Author.Needs.{needs}
-use Prim.Native.Nat.{_-_, _*_}
+use Prim.Native.Nat.{_-_}
 use mathlib.Core.Path.{refl}
 use native.Mathlib.Omega.{arith}
 use lib.ListN.{set}
-use Rattle.lattice.specs.Grid.{axis3, nOf}
+use Rattle.lattice.proofs.Equations.{nOf-2}
 use Rattle.weights.specs.Prolongation.{edgeAt}
 use Rattle.weights.specs.Product.{columnIn}
+use Rattle.numbers.specs.Lists.{entryAt}
 use Rattle.weights.specs.Tables.{columnsInZ}
-use Rattle.weights.proofs.RowLaws.{AtSlot, slot-is, place-on, placeAt, slot-start, slot-turn, going-same, places-end, one-laid}
+use Rattle.numbers.proofs.RowLoops.{going-same, one-laid}
+use Rattle.weights.proofs.RowLaws.{AtSlot, slot-is, place-on, slot-start, slot-turn, slot-end}
 use Rattle.weights.proofs.rows.columns_z.Statement.{statement}
 use Rattle.weights.proofs.rows.columns_z.Tie as tie
 
 abbrev Inv-loop : tie.InvT-loop
-Inv-loop gc ps ns p i j from columns₀ q n k₀ d₀ columns k d = AtSlot set (columnIn gc p i j) (placeAt ps (2 * q)) 2 1 q n from columns₀ columns k d
+Inv-loop gc ps ns p i j from columns₀ q n k₀ d₀ columns k d = AtSlot set (columnIn gc p i j) (entryAt ps) 2 1 q n from columns₀ columns k d
 
 abbrev μ-loop : tie.MeasureT-loop
 μ-loop gc ps ns p i j from columns₀ q n k₀ d₀ columns k d = n - d
@@ -48,10 +50,9 @@ shared-slice-read-t22 : tie.Need-shared-slice-read-t22 Inv-loop μ-loop
 shared-slice-read-t22 c = search needs
 
 index-requires : tie.Need-index-requires Inv-loop μ-loop
-unfolding nOf axis3
 index-requires c κs =
     let p = c .before .before .before .before .before .before .before .before .before .pre in
-    let h = place-on (p .1 .0) (c .before .before .before .loop .inv .slot) (c .before .before .loop-test .taken) in
+    let h = rw nOf-2 at (place-on (p .1 .0) (c .before .before .before .loop .inv .slot) (c .before .before .loop-test .taken)) in
     (p .0, record { c-in = omega arith; i-in = omega arith; j-in = omega arith; k-in = h })
 
 push-requires : tie.Need-push-requires Inv-loop μ-loop
@@ -64,7 +65,7 @@ loop-less : tie.Need-loop-less Inv-loop μ-loop
 loop-less c = search needs
 
 loop-again : tie.Need-loop-again Inv-loop μ-loop
-unfolding columnIn edgeAt placeAt
+unfolding columnIn edgeAt
 loop-again c =
     let u = c .before .before .before .before .before .before .before .loop .inv in
     let t = c .before .before .before .before .before .before .loop-test .taken in
@@ -77,7 +78,7 @@ returns : tie.Need-returns Inv-loop μ-loop
 unfolding columnsInZ
 returns c =
     let ns = c .before .before .before .before .before .before .before .args .ns .now in
-    places-end _ ns _ (c .before .loop .inv) (c .loop-test .left) (c .before .before .before .slot-on .ensures) refl
+    slot-end ns (c .before .loop .inv) (c .loop-test .left) (c .before .before .before .slot-on .ensures) refl
 
 pub columns-z-spec : {M : Type 1} → statement M
 columns-z-spec =

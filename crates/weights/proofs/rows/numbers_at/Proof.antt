@@ -1,17 +1,19 @@
 use borrow.Author.Needs.{needs}
-use Prim.Native.Nat.{_-_, _*_}
+use Prim.Native.Nat.{_-_}
 use mathlib.Core.Path.{refl}
 use native.Mathlib.Omega.{arith}
 use Rattle.numbers.specs.Places.{setNumber}
-use Rattle.lattice.specs.Grid.{axis3, nOf}
-use Rattle.weights.specs.Tables.{numbersInY, numbersIn, readFrom}
-use Rattle.weights.proofs.RowLaws.{AtSlot, slot-is, pull-in, pullAt, slot-start, slot-turn, going-numbers-same, pulls-end, numbers-y-most}
+use Rattle.lattice.proofs.Equations.{nOf-0}
+use Rattle.weights.specs.Tables.{pullIn, numbersInY, numbersIn}
+use Rattle.numbers.specs.Lists.{readFrom}
+use Rattle.numbers.proofs.RowLoops.{going-numbers-same}
+use Rattle.weights.proofs.RowLaws.{AtSlot, slot-is, pull-in, slot-start, slot-turn, slot-end, numbers-y-most}
 use Rattle.weights.proofs.rows.numbers_at.Statement.{statement}
 use Rattle.weights.proofs.rows.numbers_at.Tie as tie
 
 abbrev Inv-loop : tie.InvT-loop
 Inv-loop s ps ds ns xs eps p from values₀ q n k₀ d₀ values k d =
-    AtSlot setNumber (numbersInY (s .fine) (s .coarse) (readFrom eps (s .feps)) (readFrom eps (s .ceps)) ps ds ns xs p) (pullAt ps ds xs (2 * q)) 0 4 q n from values₀ values k d
+    AtSlot setNumber (numbersInY (s .fine) (s .coarse) (readFrom eps (s .feps)) (readFrom eps (s .ceps)) ps ds ns xs p) (pullIn ps ds xs) 0 4 q n from values₀ values k d
 
 abbrev μ-loop : tie.MeasureT-loop
 μ-loop s ps ds ns xs eps p from values₀ q n k₀ d₀ values k d = n - d
@@ -44,12 +46,11 @@ pull-at-requires : tie.Need-pull-at-requires Inv-loop μ-loop
 pull-at-requires c κs = search needs
 
 numbers-y-requires : tie.Need-numbers-y-requires Inv-loop μ-loop
-unfolding nOf axis3
 numbers-y-requires c κs =
     let p = c .before .before .before .before .before .before .before .before .before .before .before .before .pre in
     let v = c .before .before .before .loop .inv .slot in
     let u = pull-in (p .0) v (c .before .before .loop-test .taken) (c .before .pull-at .ensures) in
-    (p .0, (p .1 .0, ((u .place-low, p .1 .1 .0 .1), (u .node-low, omega (arith, p .1 .1 .1)))))
+    (p .0, (p .1 .0, ((rw nOf-0 at (u .place-low), p .1 .1 .0 .1), (rw nOf-0 at (u .node-low), omega (arith, p .1 .1 .1)))))
 
 add-d : tie.Need-add-d Inv-loop μ-loop
 add-d c = search needs
@@ -58,7 +59,6 @@ loop-less : tie.Need-loop-less Inv-loop μ-loop
 loop-less c = search needs
 
 loop-again : tie.Need-loop-again Inv-loop μ-loop
-unfolding pullAt
 loop-again c =
     let p = c .before .before .before .before .before .before .before .before .before .before .before .before .before .before .before .pre in
     let l = numbers-y-most (p .0 .places) _ _ _ _ _ _ (p .1 .1 .0 .1) (p .1 .0 .1) _ in
@@ -73,7 +73,7 @@ returns : tie.Need-returns Inv-loop μ-loop
 unfolding numbersIn
 returns c =
     let ns = c .before .before .before .before .before .before .before .before .before .before .args .ns .now in
-    pulls-end _ _ ns _ _ (c .before .loop .inv) (c .loop-test .left) (c .before .before .before .slot-on .ensures) refl
+    slot-end ns (c .before .loop .inv) (c .loop-test .left) (c .before .before .before .slot-on .ensures) refl
 
 pub numbers-at-spec : {M : Type 1} → statement M
 numbers-at-spec =

@@ -1,17 +1,19 @@
 use borrow.Author.Needs.{needs}
-use Prim.Native.Nat.{_-_, _*_}
+use Prim.Native.Nat.{_-_}
 use mathlib.Core.Path.{refl}
 use native.Mathlib.Omega.{arith}
 use Rattle.numbers.specs.Places.{setNumber}
-use Rattle.lattice.specs.Grid.{axis3, nOf}
-use Rattle.weights.specs.Tables.{numberIn, numbersInZ, readFrom}
-use Rattle.weights.proofs.RowLaws.{AtSlot, slot-is, pull-in, pullAt, slot-start, slot-turn, going-numbers-same, pulls-end, one-laid}
+use Rattle.lattice.proofs.Equations.{nOf-2}
+use Rattle.weights.specs.Tables.{pullIn, numberIn, numbersInZ}
+use Rattle.numbers.specs.Lists.{readFrom}
+use Rattle.numbers.proofs.RowLoops.{going-numbers-same, one-laid}
+use Rattle.weights.proofs.RowLaws.{AtSlot, slot-is, pull-in, slot-start, slot-turn, slot-end}
 use Rattle.weights.proofs.rows.numbers_z.Statement.{statement}
 use Rattle.weights.proofs.rows.numbers_z.Tie as tie
 
 abbrev Inv-loop : tie.InvT-loop
 Inv-loop s ps ds ns xs eps p x y from values₀ q n k₀ d₀ values k d =
-    AtSlot setNumber (numberIn (s .fine) (s .coarse) (readFrom eps (s .feps)) (readFrom eps (s .ceps)) p x y) (pullAt ps ds xs (2 * q)) 2 1 q n from values₀ values k d
+    AtSlot setNumber (numberIn (s .fine) (s .coarse) (readFrom eps (s .feps)) (readFrom eps (s .ceps)) p x y) (pullIn ps ds xs) 2 1 q n from values₀ values k d
 
 abbrev μ-loop : tie.MeasureT-loop
 μ-loop s ps ds ns xs eps p x y from values₀ q n k₀ d₀ values k d = n - d
@@ -44,16 +46,15 @@ pull-at-requires : tie.Need-pull-at-requires Inv-loop μ-loop
 pull-at-requires c κs = search needs
 
 weight-requires : tie.Need-weight-requires Inv-loop μ-loop
-unfolding nOf axis3
 weight-requires c κs =
     let p = c .before .before .before .before .before .before .before .before .before .before .before .before .pre in
     let v = c .before .before .before .loop .inv .slot in
     let u = pull-in (p .0) v (c .before .before .loop-test .taken) (c .before .pull-at .ensures) in (
       (p .0 .fine-in, p .0 .coarse-in),
       (
-        record { c-in = p .1 .0 .0; i-in = p .1 .1 .0 .0; j-in = p .1 .1 .0 .1; k-in = u .place-low },
+        record { c-in = p .1 .0 .0; i-in = p .1 .1 .0 .0; j-in = p .1 .1 .0 .1; k-in = rw nOf-2 at (u .place-low) },
         (
-          record { c-in = p .1 .0 .0; i-in = p .1 .1 .1 .0 .0; j-in = p .1 .1 .1 .0 .1; k-in = u .node-low },
+          record { c-in = p .1 .0 .0; i-in = p .1 .1 .1 .0 .0; j-in = p .1 .1 .1 .0 .1; k-in = rw nOf-2 at (u .node-low) },
           p .0 .room,
         ),
       ),
@@ -69,7 +70,7 @@ loop-less : tie.Need-loop-less Inv-loop μ-loop
 loop-less c = search needs
 
 loop-again : tie.Need-loop-again Inv-loop μ-loop
-unfolding numberIn pullAt
+unfolding numberIn
 loop-again c =
     let u = c .before .before .before .before .before .before .before .loop .inv in
     let t = c .before .before .before .before .before .before .loop-test .taken in
@@ -82,7 +83,7 @@ returns : tie.Need-returns Inv-loop μ-loop
 unfolding numbersInZ
 returns c =
     let ns = c .before .before .before .before .before .before .before .before .before .before .args .ns .now in
-    pulls-end _ _ ns _ _ (c .before .loop .inv) (c .loop-test .left) (c .before .before .before .slot-on .ensures) refl
+    slot-end ns (c .before .loop .inv) (c .loop-test .left) (c .before .before .before .slot-on .ensures) refl
 
 pub numbers-z-spec : {M : Type 1} → statement M
 numbers-z-spec =

@@ -1,7 +1,8 @@
 use native.Mathlib.Omega.{arith}
 use Rattle.lattice.proofs.GridLaws.{index-below, unknowns-most}
+use Rattle.numbers.proofs.Equations.{readFrom-is}
 use Rattle.weights.specs.Prolongation.{edgeAt}
-use Rattle.weights.specs.Tables.{weightIn, readFrom}
+use Rattle.weights.specs.Tables.{weightIn}
 use borrow.Author.Needs.{needs}
 use Rattle.weights.proofs.rows.weight.Statement.{statement}
 use Rattle.weights.proofs.rows.weight.Tie as tie
@@ -45,9 +46,11 @@ mul-requires-3 : tie.Need-mul-requires-3
 mul-requires-3 c κs = search needs
 
 returns : tie.Need-returns
-unfolding weightIn edgeAt readFrom
+unfolding weightIn edgeAt
 returns c =
     rw (
+      readFrom-is,
+      readFrom-is,
       c .mul3 .ensures,
       c .before .before .mul2 .ensures,
       c .before .before .before .mul .ensures,

@@ -4,15 +4,15 @@ use Prim.Native.Nat.{_-_, _≤_}
 use native.Mathlib.Omega.{arith}
 use mathlib.Core.Path.{_≡_}
 use borrow.Author.Needs.{needs}
-use Rattle.lattice.specs.Lattice.{medium}
-use Rattle.lattice.proofs.TabulateLaws.{Filled, filled-start, filled-turn, filled-whole}
+use Rattle.lattice.specs.Lattice.{fullLattice}
+use Rattle.numbers.proofs.TabulateLaws.{Filled, filled-start, filled-turn, filled-whole}
 use Rattle.weights.specs.Tables.{countFrom}
 use Rattle.weights.proofs.TableLaws.{count-is}
 use Rattle.weights.proofs.tables.counts.Statement.{statement}
 use Rattle.weights.proofs.tables.counts.Tie as tie
 
 abbrev Inv-loop : tie.InvT-loop
-Inv-loop l st gf gc fs cs out₀ q₀ out q = (q ≤ 384) × Filled (countFrom (medium l st) gf gc fs cs) 0 0 384 q out
+Inv-loop l st gf gc fs cs out₀ q₀ out q = (q ≤ 384) × Filled (countFrom (fullLattice l st) gf gc fs cs) 0 0 384 q out
 
 abbrev μ-loop : tie.MeasureT-loop
 μ-loop l st gf gc fs cs out₀ q₀ out q = 384 - q

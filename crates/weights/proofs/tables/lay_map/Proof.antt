@@ -8,7 +8,7 @@ use lib.ListN.{length}
 use Rattle.numbers.specs.Places.{setNumber}
 use Rattle.numbers.specs.Complex.{noNumber}
 use Rattle.numbers.proofs.Laws.{length-setNumber}
-use Rattle.weights.proofs.TableLaws.{Spread, spread-start, spread-turn, spread-end}
+use Rattle.numbers.proofs.RowLoops.{Spread, spread-start, spread-turn, spread-end}
 use Rattle.weights.proofs.tables.lay_map.Statement.{statement}
 use Rattle.weights.proofs.tables.lay_map.Tie as tie
 

@@ -5,7 +5,7 @@ use native.Mathlib.Omega.{arith}
 use mathlib.Core.Path.{_≡_, refl}
 use borrow.Author.Needs.{needs}
 use lib.ListN.{length, set, length-set}
-use Rattle.weights.proofs.TableLaws.{Spread, spread-start, spread-turn, spread-end}
+use Rattle.numbers.proofs.RowLoops.{Spread, spread-start, spread-turn, spread-end}
 use Rattle.weights.proofs.tables.lay_nodes.Statement.{statement}
 use Rattle.weights.proofs.tables.lay_nodes.Tie as tie
 

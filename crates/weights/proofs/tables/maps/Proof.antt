@@ -4,8 +4,9 @@ use native.Mathlib.Omega.{arith}
 use borrow.Author.Needs.{needs}
 use denote.Ref.{now}
 use lib.ListN.{length-replicate}
-use Rattle.lattice.specs.Lattice.{medium}
-use Rattle.weights.proofs.TableLaws.{numbers-start, numbers-whole, maps-turn}
+use Rattle.lattice.specs.Lattice.{fullLattice}
+use Rattle.numbers.proofs.RowLoops.{numbers-start, numbers-whole}
+use Rattle.weights.proofs.TableLaws.{maps-turn}
 use Rattle.weights.proofs.tables.maps.Statement.{statement}
 use Rattle.weights.proofs.tables.maps.Tie as tie
 
@@ -66,7 +67,7 @@ lay-map-requires-6 c κs = search needs
 returns : tie.Need-returns
 returns c =
     let a = c .before .before .before .before .before .before .before .before .before .before .before .before .before .before .before .before .before .before .before .before .before .before .before .before .before .args in
-    let m = medium (a .l) (now (a .st)) in
+    let m = fullLattice (a .l) (now (a .st)) in
     numbers-whole
     (maps-turn m 5 (omega arith)
     (c .before .before .before .along-map3 .ensures)

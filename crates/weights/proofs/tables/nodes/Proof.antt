@@ -1,10 +1,9 @@
 -- `weights::tables::nodes` meets its contract. Axis by axis, the list has the nodes so far (`NodesTo`).
 -- Assumes nothing.
 use native.Mathlib.Omega.{arith}
-use mathlib.Core.Path.{refl}
 use borrow.Author.Needs.{needs}
-use Rattle.lattice.specs.Grid.{axis3}
-use Rattle.weights.specs.TwoLevels.{fineLine, coarseLine, twoOf}
+use Rattle.weights.specs.TwoLevels.{twoOf}
+use Rattle.weights.proofs.Equations.{fineLine-0, fineLine-1, fineLine-2, coarseLine-0, coarseLine-1, coarseLine-2}
 use Rattle.weights.proofs.TableLaws.{nodes-start, nodes-turn, nodes-whole}
 use Rattle.weights.proofs.tables.nodes.Statement.{statement}
 use Rattle.weights.proofs.tables.nodes.Tie as tie
@@ -37,16 +36,16 @@ lay-nodes-requires-3 : tie.Need-lay-nodes-requires-3
 lay-nodes-requires-3 c κs = search needs
 
 returns : tie.Need-returns
-unfolding fineLine coarseLine twoOf axis3
+unfolding twoOf
 returns c =
     let p = c .before .before .before .before .before .before .before .before .before .before .before .before .before .pre in
     let fine = c .before .before .before .before .before .before .before .before .before .before .before .before .before .args .fine in
     nodes-whole
-    (nodes-turn 2 (fine .z) (omega arith) refl refl (p .coarse-held .z-held)
+    (nodes-turn 2 (fine .z) (omega arith) (fineLine-2 _) (coarseLine-2 _) (p .coarse-held .z-held)
     (c .before .before .before .nodes-of3 .ensures)
-    (nodes-turn 1 (fine .y) (omega arith) refl refl (p .coarse-held .y-held)
+    (nodes-turn 1 (fine .y) (omega arith) (fineLine-1 _) (coarseLine-1 _) (p .coarse-held .y-held)
     (c .before .before .before .before .before .before .before .nodes-of2 .ensures)
-    (nodes-turn 0 (fine .x) (omega arith) refl refl (p .coarse-held .x-held)
+    (nodes-turn 0 (fine .x) (omega arith) (fineLine-0 _) (coarseLine-0 _) (p .coarse-held .x-held)
     (c .before .before .before .before .before .before .before .before .before .before .before .nodes-of .ensures)
     nodes-start
     (c .before .before .before .before .before .before .before .before .before .lay-nodes .ensures))

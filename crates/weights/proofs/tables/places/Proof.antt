@@ -4,15 +4,15 @@ use Prim.Native.Nat.{_-_, _≤_}
 use native.Mathlib.Omega.{arith}
 use mathlib.Core.Path.{_≡_}
 use borrow.Author.Needs.{needs}
-use Rattle.lattice.specs.Lattice.{medium}
-use Rattle.lattice.proofs.TabulateLaws.{Filled, filled-start, filled-turn, filled-whole}
+use Rattle.lattice.specs.Lattice.{fullLattice}
+use Rattle.numbers.proofs.TabulateLaws.{Filled, filled-start, filled-turn, filled-whole}
 use Rattle.weights.specs.Tables.{placeFrom}
 use Rattle.weights.proofs.TableLaws.{place-is}
 use Rattle.weights.proofs.tables.places.Statement.{statement}
 use Rattle.weights.proofs.tables.places.Tie as tie
 
 abbrev Inv-loop : tie.InvT-loop
-Inv-loop l st gf gc fs cs out₀ e₀ out e = (e ≤ 768) × Filled (placeFrom (medium l st) gf gc fs cs) 0 0 768 e out
+Inv-loop l st gf gc fs cs out₀ e₀ out e = (e ≤ 768) × Filled (placeFrom (fullLattice l st) gf gc fs cs) 0 0 768 e out
 
 abbrev μ-loop : tie.MeasureT-loop
 μ-loop l st gf gc fs cs out₀ e₀ out e = 768 - e

@@ -5,14 +5,15 @@ use native.Mathlib.Omega.{arith}
 use mathlib.Core.Path.{_≡_}
 use borrow.Author.Needs.{needs}
 use lib.ListN.{length-replicate}
-use Rattle.lattice.specs.Lattice.{medium}
+use Rattle.lattice.specs.Lattice.{fullLattice}
 use Rattle.weights.specs.Tables.{pullFrom}
-use Rattle.weights.proofs.TableLaws.{NumbersTo, numbers-start, numbers-turn, numbers-whole, pull-is}
+use Rattle.numbers.proofs.RowLoops.{NumbersTo, numbers-start, numbers-turn, numbers-whole}
+use Rattle.weights.proofs.TableLaws.{pull-is}
 use Rattle.weights.proofs.tables.pulls.Statement.{statement}
 use Rattle.weights.proofs.tables.pulls.Tie as tie
 
 abbrev Inv-loop : tie.InvT-loop
-Inv-loop l st gf gc fs cs xs es out₀ e₀ out e = (e ≤ 768) × NumbersTo (pullFrom (medium l st) gf gc fs cs xs es) 768 e out
+Inv-loop l st gf gc fs cs xs es out₀ e₀ out e = (e ≤ 768) × NumbersTo (pullFrom (fullLattice l st) gf gc fs cs xs es) 768 e out
 
 abbrev μ-loop : tie.MeasureT-loop
 μ-loop l st gf gc fs cs xs es out₀ e₀ out e = 768 - e

@@ -4,7 +4,7 @@ use Prim.Native.Nat.{_-_, _≤_}
 use native.Mathlib.Omega.{arith}
 use mathlib.Core.Path.{_≡_}
 use borrow.Author.Needs.{needs}
-use Rattle.lattice.proofs.TabulateLaws.{Filled, filled-start, filled-turn, filled-whole}
+use Rattle.numbers.proofs.TabulateLaws.{Filled, filled-start, filled-turn, filled-whole}
 use Rattle.weights.specs.Tables.{valueEntry, linesIn}
 use Rattle.weights.proofs.tables.value_places.Statement.{statement}
 use Rattle.weights.proofs.tables.value_places.Tie as tie

@@ -3,7 +3,7 @@
 use mathlib.Core.Path.{ap, _∙_}
 use lib.ListN.{length}
 use Rattle.lattice.specs.Grid.{unknownsOf}
-use Rattle.weights.proofs.ListLaws.{laid-numbers-length}
+use Rattle.numbers.proofs.ListLaws.{laid-numbers-length}
 use Rattle.weights.proofs.TwoLevelLaws.{fine-grid, coarse-grid}
 use Rattle.weights.proofs.WholeLaws.{fine-limited, coarse-limited, room-for, weights-room, turn-ready, whole-left, finite-both, finite-not}
 use borrow.Author.Needs.{needs}
