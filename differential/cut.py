@@ -5,7 +5,8 @@
 
 SOURCE is the folder that holds src/fdfd/three.rs; what is cut becomes OUT/source/src/lib.rs. Each item is cut whole,
 by its name. What is changed in it stands in CHANGES, with the reason; each change must hit exactly once, and so must
-each name and each pattern. FAULT is one of FAULTS, a wrong change that the run has to notice; `--list` names them.
+each name and each pattern. FAULT is one of FAULTS, a wrong change that the run has to notice; `--list` names them, and
+`--check SOURCE` tries each of their patterns and writes nothing.
 """
 
 import os
@@ -354,16 +355,8 @@ def public(text):
     return text
 
 
-def main():
-    if sys.argv[1:] == ["--list"]:
-        print("\n".join(FAULTS))
-        return
-    if len(sys.argv) not in (3, 4):
-        stop("usage: cut.py SOURCE OUT [FAULT]")
-    source, out = sys.argv[1:3]
-    fault = sys.argv[3] if len(sys.argv) == 4 else ""
-    if fault and fault not in FAULTS:
-        stop(f"no fault {fault}: there are {', '.join(FAULTS)}")
+def cut_all(source):
+    """Every item, with the changes."""
     files = {name: read(source, name) for name in (THREE, MULTIGRID)}
     items, of_type = {}, {}
     for name, of, wanted in ITEMS:
@@ -374,6 +367,26 @@ def main():
         items[full], of_type[full] = cut_loop(files[MULTIGRID], parts), None
     for full, pattern, text, why in CHANGES:
         change(items, full, pattern, text, why)
+    return items, of_type
+
+
+def main():
+    if sys.argv[1:] == ["--list"]:
+        print("\n".join(FAULTS))
+        return
+    if len(sys.argv) not in (3, 4):
+        stop("usage: cut.py SOURCE OUT [FAULT]")
+    if sys.argv[1] == "--check":
+        items, _ = cut_all(sys.argv[2])
+        for fault, (full, pattern, text) in FAULTS.items():
+            change(dict(items), full, pattern, text, "the planted fault " + fault)
+        print(f"{len(FAULTS)} faults of the Rust, each hits once")
+        return
+    source, out = sys.argv[1:3]
+    fault = sys.argv[3] if len(sys.argv) == 4 else ""
+    if fault and fault not in FAULTS:
+        stop(f"no fault {fault}: there are {', '.join(FAULTS)}")
+    items, of_type = cut_all(source)
     if fault:
         full, pattern, text = FAULTS[fault]
         change(items, full, pattern, text, "the planted fault " + fault)

@@ -8,7 +8,8 @@ use crate::lattice::lattice::Lattice;
 use crate::lattice::levels;
 use crate::lattice::levels::{Depth, Lines, Three};
 use crate::lattice_c;
-use crate::operators::galerkin::Part;
+use crate::numbers::terms::Part;
+use crate::operators::galerkin::FineRows;
 use crate::operators::{averaged, galerkin, pattern, rediscretized, stencil, volumes};
 use crate::weights::{tables, whole};
 
@@ -75,9 +76,8 @@ fn transfer(l: Lattice, st: &[f64], fine: Three, coarse: Three, from: usize, sto
     let n = grid::unknowns(tables::grid_of(l.grid, fine));
     let m = grid::unknowns(tables::grid_of(l.grid, coarse));
     let (p, t) = (store.forward.next, store.turned.next);
-    let o = whole::Offsets { feps: from, ceps: from + n, s: p.s, k: p.k, ts: t.s, tk: t.k };
     *finite = whole::transfer(
-        l, st, fine, coarse, o, store.chains, store.forward.starts, store.forward.columns, store.forward.values,
+        l, st, fine, coarse, from, from + n, p, t, store.chains, store.forward.starts, store.forward.columns, store.forward.values,
         store.turned.starts, store.turned.columns, store.turned.values,
     );
     (store.forward.step(n), store.turned.step(m))
@@ -109,15 +109,10 @@ fn galerkin_levels(l: Lattice, st: &[f64], found: &Lines, depth: usize, store: &
         let Part { s, k } = o.next;
         pattern::level_columns(l, st, gc, &t, o.starts, s, o.columns, k);
         let part = o.step(m);
-        let finite = if level == 1 {
-            galerkin::galerkin_computed(
-                l, st, store.chains, p, f.starts, f.columns, f.values, r, b.starts, b.columns, b.values, m, part, o.starts, o.columns, o.values,
-            )
-        } else {
-            galerkin::galerkin_stored(
-                above, p, f.starts, f.columns, f.values, r, b.starts, b.columns, b.values, n, m, part, o.starts, o.columns, o.values,
-            )
-        };
+        let rows = if level == 1 { FineRows::Computed } else { FineRows::Stored(above) };
+        let finite = galerkin::galerkin(
+            rows, l, st, store.chains, p, f.starts, f.columns, f.values, r, b.starts, b.columns, b.values, m, part, o.starts, o.columns, o.values,
+        );
         told.finite(5 * level + 4, finite);
         above = part;
         from += n;
@@ -212,7 +207,7 @@ pub extern "C" fn operators_setup(
     let l = lattice_c::input(cells, scalars);
     let c = check::check(l, xn, xh, yn, yh, zn, zh, eps);
     if !check::is_sound(c) {
-        lattice_c::answer(c, 0, out);
+        lattice_c::answer(c, out);
         return;
     }
     let st = crate::lattice::lattice::stretches(l, xn, xh, yn, yh, zn, zh);

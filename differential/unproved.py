@@ -6,7 +6,7 @@
 The prover makes no library of code with a fault in it, so here the .rt files, contracts left out, are put together
 as one Rust file and compiled by rustc into libraries in OUT. Only to see that the run can fail, and to compare a layer
 before its proofs are there; exports.rs exports what no crate does yet. Without FAULT the code is left as it is; each of
-FAULTS must hit exactly once. `--list` names them.
+FAULTS must hit exactly once. `--list` names them, and `--check CRATES` tries each of their patterns and writes nothing.
 """
 
 import os
@@ -16,7 +16,7 @@ import sys
 
 # The file, what is found there, what takes its place.
 FAULTS = {
-    "lost-conjugate": ("lattice/src/neighbours.rt", "numbers::conj(C64 { re, im })", "C64 { re, im }"),
+    "lost-conjugate": ("lattice/src/neighbours.rt", "numbers::conj(p)", "p"),
     "swapped-neighbour": ("lattice/src/curls.rt", "grid::with_component(p, field), along, true)",
                           "grid::with_component(p, field), along, false)"),
     "swapped-axes": ("lattice/src/curls.rt", "behind(l, st, p, b, c, 1.0, 0, columns, values)",
@@ -34,24 +34,24 @@ FAULTS = {
     "lost-wall": ("lattice/src/neighbours.rt", "2 != c && on_wall(l, st, p, 2)", "on_wall(l, st, p, 2)"),
     "wrong-position": ("lattice/src/check.rt", "Checked::Entry(position + n + m)", "Checked::Entry(position + m)"),
     "wrong-order": ("lattice/src/check.rt", "if bad_length(g.dx) {", "if bad_length(v.k0) {\n        return Checked::Scalar(3);\n    }\n    if bad_length(g.dx) {"),
-    "turned-conjugate": ("weights/src/transfer.rt", "numbers::put(tvalues, tk + at, v);", "numbers::put(tvalues, tk + at, numbers::conj(v));"),
+    "turned-conjugate": ("numbers/src/transpose.rt", "crate::put(tvalues, tk + at, v);", "crate::put(tvalues, tk + at, crate::conj(v));"),
     "dropped-given-away": ("weights/src/interpolate.rt", "one_pull(a, numbers::mul(numbers::one_minus(t), behind))", "one_pull(a, behind)"),
-    "lost-inverse": ("weights/src/interpolate.rt", "numbers::inv(C64 { re, im })", "C64 { re, im }"),
+    "lost-inverse": ("weights/src/interpolate.rt", "numbers::inv(p)", "p"),
     "another-order": ("weights/src/rows.rt", "numbers::mul(numbers::mul(x.weight, y.weight), z.weight)", "numbers::mul(x.weight, numbers::mul(y.weight, z.weight))"),
     "own-places": ("weights/src/tables.rt", "if slot_along(q) {\n        return q % 64;", "if q < 384 {\n        return q % 64;"),
     "arithmetic-mean": ("weights/src/eps.rt", "numbers::real_over(1.0, numbers::get(eps, from + c))", "numbers::get(eps, from + c)"),
     "weight-one-left-out": ("weights/src/interpolate.rt", "numbers::mul(t, ahead)", "t"),
     "wrong-limit": ("lattice/src/check.rt", "4096 < g.nx", "4095 < g.nx"),
-    "operator-inverse": ("lattice/src/neighbours.rt", "numbers::conj(C64 { re, im })", "numbers::inv(C64 { re, im })"),
+    "operator-inverse": ("lattice/src/neighbours.rt", "numbers::conj(p)", "numbers::inv(p)"),
     "graddiv-order": ("lattice/src/rows.rt", "numbers::mul(numbers::mul(w, numbers::get(eps, column)), inverse)",
                       "numbers::mul(numbers::mul(w, inverse), numbers::get(eps, column))"),
-    "sums-from-zero": ("operators/src/stencil.rt", "columns[p] = c;\n    numbers::put(values, p, v);",
-                       "columns[p] = c;\n    numbers::put(values, p, numbers::add(numbers::zero(), v));"),
+    "sums-from-zero": ("numbers/src/collect.rt", "columns[p] = c;\n    crate::put(values, p, v);",
+                       "columns[p] = c;\n    crate::put(values, p, crate::add(crate::zero(), v));"),
     "shift-first": ("operators/src/stencil.rt", """\
     let n = unshifted_row(l, st, eps, r, columns, values);
     if l.shift != 0.0 {
         if !neighbours::fixed(l, st, r) {
-            return insert(columns, values, n, r, shift_number(l, st, eps, r));
+            return collect::insert(columns, values, n, r, shift_number(l, st, eps, r));
         }
     }
     n
@@ -62,32 +62,32 @@ FAULTS = {
     let mut cs = [0usize; 29];
     let mut xs = [0.0; 58];
     let n = rows::row_into(l, st, eps, r, &mut cs, &mut xs);
-    let mut k = insert(columns, values, 0, r, shift_number(l, st, eps, r));
+    let mut k = collect::insert(columns, values, 0, r, shift_number(l, st, eps, r));
     for m in 0..n {
-        k = insert(columns, values, k, cs[m], numbers::get(&xs, m));
+        k = collect::insert(columns, values, k, cs[m], numbers::get(&xs, m));
     }
     k
 """),
     "shift-grouping": ("operators/src/stencil.rt", "l.shift * (l.k0 * l.k0)", "l.shift * l.k0 * l.k0"),
     "fixed-shifted": ("operators/src/stencil.rt", "if !neighbours::fixed(l, st, r) {", "if r < 12288 {"),
     "last-row-finite": ("operators/src/stencil.rt", "finite = finite && row.finite;", "finite = row.finite;"),
-    "two-weights-first": ("operators/src/galerkin.rt", "add_column(numbers::mul(w, v), cs[at + q], p, starts, columns, values, n, m, sums);", """\
-let c = cs[at + q];
+    "two-weights-first": ("operators/src/galerkin.rt", "add_column(numbers::mul(w, v), cs[q], p, starts, columns, values, sums);", """\
+let c = cs[q];
         for e in p.k + starts[p.s + c]..p.k + starts[p.s + c + 1] {
             add_term(sums, columns[e], numbers::mul(numbers::mul(w, numbers::get(values, e)), v));
         }"""),
     "diagonal-everywhere": ("operators/src/galerkin.rt", "if tstarts[ts + c] == tstarts[ts + c + 1] {", "if tstarts[ts + c] <= tstarts[ts + c + 1] {"),
     "diagonal-zero": ("operators/src/galerkin.rt", "numbers::put(sums, c, numbers::one());", "numbers::put(sums, c, numbers::zero());"),
     "sums-kept": ("operators/src/galerkin.rt", "numbers::put(sums, columns[k + q], numbers::zero());", ""),
-    "entry-left-out": ("operators/src/base.rt", "return both(live(bloch, 1, j), either(here, up));", "return both(live(bloch, 1, j), here);"),
-    "period-left-out": ("operators/src/base.rt", "either(near, wrapped)\n", "near\n"),
-    "entry-too-many": ("operators/src/base.rt", "return both(live(bloch, 0, i), here);", "return both(live(bloch, 0, i), either(here, up));"),
+    "entry-left-out": ("operators/src/base.rt", "return live(bloch, 1, j) && (here || up);", "return live(bloch, 1, j) && here;"),
+    "period-left-out": ("operators/src/base.rt", "near || (bloch && i + 1 == n && j == 0)", "near"),
+    "entry-too-many": ("operators/src/base.rt", "return live(bloch, w, i) && here;", "return live(bloch, w, i) && (here || up);"),
     "same-for-near": ("operators/src/tables.rt", "ty: word(t, 1, a, b, a == b, y),", "ty: word(t, 1, a, b, false, y),"),
     "one-weight": ("operators/src/pattern.rt", "for d in 0..n {\n        w = words::mix", "for d in 0..n % 2 {\n        w = words::mix"),
     "fixed-counted": ("operators/src/pattern.rt", "tables::row_count(t, g, fixed, p)", "tables::row_count(t, g, false, p)"),
     "walk-too-far": ("operators/src/averaged.rt", "if place >= at {", "if place > at {"),
     "hat-by-difference": ("operators/src/averaged.rt", "1.0 - distance as f64 / width as f64", "(width - distance) as f64 / width as f64"),
-    "wall-wraps": ("operators/src/averaged.rt", "let wy = lattice::lattice::is_wall(l.y);", "let wy = false;"),
+    "wall-wraps": ("operators/src/averaged.rt", "let wy = lattice::lattice::is_wall(y);", "let wy = false;"),
     "grouped-mean": ("operators/src/averaged.rt", "numbers::real_over(w * count as f64, inverse)",
                      "numbers::real_times(w, numbers::real_over(count as f64, inverse))"),
     "grouped-step": ("operators/src/rediscretized.rt", "grid::step(g, axis) * cells as f64 / n as f64", "grid::step(g, axis) * (cells as f64 / n as f64)"),
@@ -95,7 +95,7 @@ let c = cs[at + q];
     "volume-of-nodes": ("operators/src/volumes.rt", "if axis == p.component {", "if axis != p.component {"),
     "zero-share": ("operators/src/volumes.rt", "return numbers::one();", "return numbers::zero();"),
     "share-without-last": ("operators/src/volumes.rt", "for q in first..last {", "for q in first..last - (last - first) / 2 {"),
-    "inverse-finite": ("operators/src/volumes.rt", "(numbers::is_finite(v) && numbers::is_finite(w))", "numbers::is_finite(v)"),
+    "inverse-finite": ("operators/src/volumes.rt", "numbers::is_finite(v) && numbers::is_finite(w)\n", "numbers::is_finite(v)\n"),
 }
 
 
@@ -103,15 +103,33 @@ def stop(message):
     sys.exit("differential/unproved.py: " + message)
 
 
+def planted(text, fault):
+    """A file's text with a fault in it."""
+    name, old, new = FAULTS[fault]
+    if text.count(old) != 1:
+        stop(f"the fault {fault} hits {text.count(old)} times in {name}, not once")
+    return text.replace(old, new)
+
+
+def check(crates):
+    """Each fault hits once."""
+    wrong = []
+    for fault, (name, old, _) in FAULTS.items():
+        with open(os.path.join(crates, name), encoding="utf-8") as file:
+            hits = file.read().count(old)
+        if hits != 1:
+            wrong.append(f"the fault {fault} hits {hits} times in {name}, not once")
+    if wrong:
+        stop("\n".join(wrong))
+    print(f"{len(FAULTS)} faults of the code under test, each hits once")
+
+
 def plain(crates, name, fault):
     """A file with its contracts left out."""
     with open(os.path.join(crates, name), encoding="utf-8") as file:
         text = file.read()
     if fault and FAULTS[fault][0] == name:
-        _, old, new = FAULTS[fault]
-        if text.count(old) != 1:
-            stop(f"the fault {fault} hits {text.count(old)} times in {name}, not once")
-        text = text.replace(old, new)
+        text = planted(text, fault)
     lines, depth = [], 0
     for line in text.split("\n"):
         start = line.strip()
@@ -128,12 +146,15 @@ def inside(text, crate, above):
     text = text.replace("crate::", f"crate::{crate}::")
     for name in above:
         text = re.sub(rf"^use {name}::", f"use crate::{name}::", text, flags=re.M)
-    return "".join(f"use crate::{name};\n" for name in above) + text
+    return "".join(f"use crate::{name};\n" for name in above if f"use crate::{name};" not in text) + text
 
 
 def main():
     if sys.argv[1:] == ["--list"]:
         print("\n".join(FAULTS))
+        return
+    if sys.argv[1:2] == ["--check"] and len(sys.argv) == 3:
+        check(sys.argv[2])
         return
     if len(sys.argv) not in (3, 4):
         stop("usage: unproved.py CRATES OUT [FAULT]")
@@ -141,11 +162,12 @@ def main():
     fault = sys.argv[3] if len(sys.argv) == 4 else ""
     if fault and fault not in FAULTS:
         stop(f"no fault {fault}")
-    parts = ["#![allow(unused, improper_ctypes_definitions)]",
-             "pub mod numbers {\n" + plain(crates, "numbers/src/lib.rt", fault) + "\n}"]
+    parts = ["#![allow(unused, improper_ctypes_definitions)]"]
     # the crates of modules, then those of one file; each sees those before it
-    for crate, above in (("lattice", ["numbers"]), ("weights", ["numbers", "lattice"]), ("operators", ["numbers", "lattice", "weights"])):
+    for crate, above in (("numbers", []), ("lattice", ["numbers"]), ("weights", ["numbers", "lattice"]), ("operators", ["numbers", "lattice", "weights"])):
         parts.append(f"pub mod {crate} {{")
+        own = plain(crates, f"{crate}/src/lib.rt", fault)
+        parts.append(inside(re.sub(r"^pub mod \w+;$", "", own, flags=re.M), crate, above))
         for name in sorted(os.listdir(os.path.join(crates, crate, "src"))):
             if name != "lib.rt":
                 text = plain(crates, f"{crate}/src/{name}", fault)

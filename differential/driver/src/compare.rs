@@ -119,7 +119,7 @@ fn check(c: &Case, room: i64, counts: &mut Counts) -> Result<(), String> {
     Ok(())
 }
 
-// Number and place, or 0 and the level count, and the lines of all levels.
+// Number and place, or 0 and the level count, and the lines of all levels: none after a refusal.
 fn expected_levels(c: &Case) -> ([usize; 2], Vec<[Line; 3]>) {
     if let Some((number, place)) = table::refusal(c, 6) {
         return ([number, place], Vec::new());
@@ -132,7 +132,9 @@ fn expected_levels(c: &Case) -> ([usize; 2], Vec<[Line; 3]>) {
 
 fn levels(c: &Case, room: [i64; 3], counts: &mut Counts) -> Result<(), String> {
     let (answer, lines) = expected_levels(c);
-    let (mut cells, mut ends) = (vec![0; 36], vec![0; 36 * 65]);
+    // refusals 1 to 4 leave the lists as they were, 5 leaves zeros
+    let untouched = (1..=4).contains(&answer[0]);
+    let (mut cells, mut ends) = if untouched { (vec![], vec![]) } else { (vec![0; 36], vec![0; 36 * 65]) };
     for (q, line) in lines.iter().flatten().enumerate() {
         cells[q] = line.cells();
         ends[65 * q..65 * q + line.ends.len()].copy_from_slice(&line.ends);
