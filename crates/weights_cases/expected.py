@@ -155,6 +155,8 @@ def lattice(text, cells, phases, up, side, room=512):
 ONE = (1.0, 0.0)
 BLOCH, WALL, WALL_X = (ONE, ONE, ONE), (None, None, None), (None, ONE, ONE)
 TURNED, MIXED = ((0.5, 0.25), (-2.0, 1.0), (0.0, -1.5)), ((0.5, 0.25), None, (0.0, -1.5))
+for row in ((), (0,), (0, 0), (1, 0), (2, 1, 0), (1, 0, 1)):
+    print(" ".join(map(str, row)) or "none", "once" if len(set(row)) == len(row) else "twice")
 lattice("1 1 1 Bloch", (1, 1, 1), BLOCH, 0.0, 0.0)
 lattice("3 2 1 walls", (3, 2, 1), WALL, 0.0, 0.0)
 lattice("4 1 1 Bloch", (4, 1, 1), BLOCH, 0.0, 0.0)

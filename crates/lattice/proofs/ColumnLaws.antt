@@ -9,11 +9,10 @@ use native.Mathlib.Omega.{arith}
 use lib.Dec.{eqb}
 use Rattle.numbers.specs.declared.C64.{C64}
 use Rattle.numbers.specs.Complex.{mulF, oneF, oneNumber, realOver, realTimes}
-use Rattle.numbers.specs.Lists.{each}
+use Rattle.numbers.specs.Lists.{In, each}
 use Rattle.numbers.specs.Terms.{Term, columnsOf}
 use Rattle.numbers.proofs.TabulateLaws.{length-tabulate}
 use Rattle.numbers.proofs.EachLaws.{columns-append, columns-each}
-use Rattle.numbers.proofs.MemberLaws.{In}
 use Rattle.lattice.specs.declared.grid.Grid3d.{Grid3d}
 use Rattle.lattice.specs.declared.grid.Position.{Position}
 use Rattle.lattice.specs.Grid.{nOf, indexOf, atOf, Limits, Inside}

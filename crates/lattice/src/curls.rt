@@ -208,7 +208,8 @@ fn push_free_here(
     requires { ⌜ Limits (l .grid) ⌝ }
     requires { ⌜ Inside (l .grid) p ⌝ }
     requires { ⌜ k < 64 ⌝ }
-    ensures { λ r. ⌜ Wrote (now (columns .entry)) (now (values .entry)) k (freeNodes (fullLattice l (now (st .entry))) (termHere (fullLattice l (now (st .entry))) p 0 w)) (now (columns .exit)) (now (values .exit)) r ⌝ }
+    ensures { λ r. ⌜ Wrote (now (columns .entry)) (now (values .entry)) k (freeNodes (fullLattice l (now (st .entry))) (termHere (fullLattice l (now (st .entry))) p 0 w))
+        (now (columns .exit)) (now (values .exit)) r ⌝ }
 {
     let here = grid::index(l.grid, grid::with_component(p, 0));
     if neighbours::node_fixed(l, st, here) {

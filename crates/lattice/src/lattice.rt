@@ -110,7 +110,8 @@ pub fn stretches(
 ) -> [f64; STRETCH_DOUBLES]
     requires { ⌜ Lengths (v .grid) (now xn) (now yn) (now zn) ⌝ }
     requires { ⌜ Lengths (v .grid) (now xh) (now yh) (now zh) ⌝ }
-    ensures { λ r. ⌜ (length r ≡ stretchDoubles) × (fullLattice v r ≡ latticeOf v (now (xn .entry)) (now (xh .entry)) (now (yn .entry)) (now (yh .entry)) (now (zn .entry)) (now (zh .entry))) ⌝ }
+    ensures { λ r. ⌜ (length r ≡ stretchDoubles) × (fullLattice v r ≡ latticeOf v (now (xn .entry)) (now (xh .entry)) (now (yn .entry)) (now (yh .entry))
+        (now (zn .entry)) (now (zh .entry))) ⌝ }
 {
     let mut out = [0.0; STRETCH_DOUBLES];
     lay_stretches(v.grid, xn, yn, zn, 0, &mut out);

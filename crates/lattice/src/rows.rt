@@ -31,7 +31,8 @@ fn push_face_term(
 ) -> usize
     requires { ⌜ Limits (l .grid) ⌝ }
     requires { ⌜ k < 64 ⌝ }
-    ensures { λ r. ⌜ Wrote (now (columns .entry)) (now (values .entry)) k (faceTerm (fullLattice l (now (st .entry))) wh (record { column = column; number = we })) (now (columns .exit)) (now (values .exit)) r ⌝ }
+    ensures { λ r. ⌜ Wrote (now (columns .entry)) (now (values .entry)) k (faceTerm (fullLattice l (now (st .entry))) wh (record { column = column; number = we }))
+        (now (columns .exit)) (now (values .exit)) r ⌝ }
 {
     if neighbours::fixed(l, st, column) {
         return k;
@@ -60,7 +61,8 @@ fn push_face_terms(
     requires { ⌜ Limits (l .grid) ⌝ }
     requires { ⌜ (n ≤ length (now cs)) × (2 * n ≤ length (now xs)) ⌝ }
     requires { ⌜ from + n < 64 ⌝ }
-    ensures { λ r. ⌜ Wrote (now (columns .entry)) (now (values .entry)) from (each (faceTerm (fullLattice l (now (st .entry))) wh) (termsIn (now (cs .entry)) (now (xs .entry)) 0 n)) (now (columns .exit)) (now (values .exit)) r ⌝ }
+    ensures { λ r. ⌜ Wrote (now (columns .entry)) (now (values .entry)) from (each (faceTerm (fullLattice l (now (st .entry))) wh) (termsIn (now (cs .entry))
+        (now (xs .entry)) 0 n)) (now (columns .exit)) (now (values .exit)) r ⌝ }
 {
     let mut k = from;
     for m in 0..n {
@@ -82,7 +84,8 @@ fn face_terms(
     requires { ⌜ Limits (l .grid) ⌝ }
     requires { ⌜ face < unknownsOf (l .grid) ⌝ }
     requires { ⌜ k + 4 < 64 ⌝ }
-    ensures { λ r. ⌜ Wrote (now (columns .entry)) (now (values .entry)) k (faceTerms (fullLattice l (now (st .entry))) (record { column = face; number = wh })) (now (columns .exit)) (now (values .exit)) r ⌝ }
+    ensures { λ r. ⌜ Wrote (now (columns .entry)) (now (values .entry)) k (faceTerms (fullLattice l (now (st .entry))) (record { column = face; number = wh }))
+        (now (columns .exit)) (now (values .exit)) r ⌝ }
 {
     let mut cs = [0usize; 4];
     let mut xs = [0.0; 8];
@@ -105,7 +108,8 @@ fn push_faces(
     requires { ⌜ (n ≤ length (now cs)) × (2 * n ≤ length (now xs)) ⌝ }
     requires { ⌜ Below (unknownsOf (l .grid)) (now cs) n ⌝ }
     requires { ⌜ from + 4 * n < 64 ⌝ }
-    ensures { λ r. ⌜ Wrote (now (columns .entry)) (now (values .entry)) from (each (faceTerms (fullLattice l (now (st .entry)))) (termsIn (now (cs .entry)) (now (xs .entry)) 0 n)) (now (columns .exit)) (now (values .exit)) r ⌝ }
+    ensures { λ r. ⌜ Wrote (now (columns .entry)) (now (values .entry)) from (each (faceTerms (fullLattice l (now (st .entry)))) (termsIn (now (cs .entry))
+        (now (xs .entry)) 0 n)) (now (columns .exit)) (now (values .exit)) r ⌝ }
 {
     let mut k = from;
     for m in 0..n {
@@ -209,7 +213,8 @@ fn push_node_term(
     requires { ⌜ Limits (l .grid) ⌝ }
     requires { ⌜ 2 * column + 1 < length (now eps) ⌝ }
     requires { ⌜ k < 64 ⌝ }
-    ensures { λ r. ⌜ Wrote (now (columns .entry)) (now (values .entry)) k (nodeTerm (fullLattice l (now (st .entry))) (numberAt (now (eps .entry))) wg inverse (record { column = column; number = wd })) (now (columns .exit)) (now (values .exit)) r ⌝ }
+    ensures { λ r. ⌜ Wrote (now (columns .entry)) (now (values .entry)) k (nodeTerm (fullLattice l (now (st .entry))) (numberAt (now (eps .entry))) wg inverse
+        (record { column = column; number = wd })) (now (columns .exit)) (now (values .exit)) r ⌝ }
 {
     if neighbours::fixed(l, st, column) {
         return k;
@@ -238,7 +243,8 @@ fn push_node_terms(
     requires { ⌜ Below (unknownsOf (l .grid)) (now cs) n ⌝ }
     requires { ⌜ 2 * unknownsOf (l .grid) ≤ length (now eps) ⌝ }
     requires { ⌜ from + n < 64 ⌝ }
-    ensures { λ r. ⌜ Wrote (now (columns .entry)) (now (values .entry)) from (each (nodeTerm (fullLattice l (now (st .entry))) (numberAt (now (eps .entry))) wg inverse) (termsIn (now (cs .entry)) (now (xs .entry)) 0 n)) (now (columns .exit)) (now (values .exit)) r ⌝ }
+    ensures { λ r. ⌜ Wrote (now (columns .entry)) (now (values .entry)) from (each (nodeTerm (fullLattice l (now (st .entry))) (numberAt (now (eps .entry))) wg inverse)
+        (termsIn (now (cs .entry)) (now (xs .entry)) 0 n)) (now (columns .exit)) (now (values .exit)) r ⌝ }
 {
     let mut k = from;
     for m in 0..n {
@@ -273,7 +279,8 @@ fn node_terms(
     requires { ⌜ q < unknownsOf (l .grid) ⌝ }
     requires { ⌜ 2 * unknownsOf (l .grid) ≤ length (now eps) ⌝ }
     requires { ⌜ k + 6 < 64 ⌝ }
-    ensures { λ r. ⌜ Wrote (now (columns .entry)) (now (values .entry)) k (nodeTerms (fullLattice l (now (st .entry))) (numberAt (now (eps .entry))) (record { column = q; number = wg })) (now (columns .exit)) (now (values .exit)) r ⌝ }
+    ensures { λ r. ⌜ Wrote (now (columns .entry)) (now (values .entry)) k (nodeTerms (fullLattice l (now (st .entry))) (numberAt (now (eps .entry)))
+        (record { column = q; number = wg })) (now (columns .exit)) (now (values .exit)) r ⌝ }
 {
     let mut cs = [0usize; 6];
     let mut xs = [0.0; 12];
@@ -299,7 +306,8 @@ fn push_nodes(
     requires { ⌜ Below (unknownsOf (l .grid)) (now cs) n ⌝ }
     requires { ⌜ 2 * unknownsOf (l .grid) ≤ length (now eps) ⌝ }
     requires { ⌜ from + 6 * n < 64 ⌝ }
-    ensures { λ r. ⌜ Wrote (now (columns .entry)) (now (values .entry)) from (each (nodeTerms (fullLattice l (now (st .entry))) (numberAt (now (eps .entry)))) (termsIn (now (cs .entry)) (now (xs .entry)) 0 n)) (now (columns .exit)) (now (values .exit)) r ⌝ }
+    ensures { λ r. ⌜ Wrote (now (columns .entry)) (now (values .entry)) from (each (nodeTerms (fullLattice l (now (st .entry))) (numberAt (now (eps .entry))))
+        (termsIn (now (cs .entry)) (now (xs .entry)) 0 n)) (now (columns .exit)) (now (values .exit)) r ⌝ }
 {
     let mut k = from;
     for m in 0..n {
@@ -322,7 +330,8 @@ pub fn grad_div_into(
     requires { ⌜ r < unknownsOf (l .grid) ⌝ }
     requires { ⌜ 2 * unknownsOf (l .grid) ≤ length (now eps) ⌝ }
     requires { ⌜ k < 40 ⌝ }
-    ensures { λ n. ⌜ Wrote (now (columns .entry)) (now (values .entry)) k (gradDiv (fullLattice l (now (st .entry))) (numberAt (now (eps .entry))) r) (now (columns .exit)) (now (values .exit)) n ⌝ }
+    ensures { λ n. ⌜ Wrote (now (columns .entry)) (now (values .entry)) k (gradDiv (fullLattice l (now (st .entry))) (numberAt (now (eps .entry))) r)
+        (now (columns .exit)) (now (values .exit)) n ⌝ }
 {
     let mut cs = [0usize; 2];
     let mut xs = [0.0; 4];
@@ -344,7 +353,8 @@ pub fn row_into(
     requires { ⌜ Limits (l .grid) ⌝ }
     requires { ⌜ r < unknownsOf (l .grid) ⌝ }
     requires { ⌜ 2 * unknownsOf (l .grid) ≤ length (now eps) ⌝ }
-    ensures { λ n. ⌜ Wrote (now (columns .entry)) (now (values .entry)) 0 (rowInto (fullLattice l (now (st .entry))) (numberAt (now (eps .entry))) r) (now (columns .exit)) (now (values .exit)) n ⌝ }
+    ensures { λ n. ⌜ Wrote (now (columns .entry)) (now (values .entry)) 0 (rowInto (fullLattice l (now (st .entry))) (numberAt (now (eps .entry))) r)
+        (now (columns .exit)) (now (values .exit)) n ⌝ }
 {
     if neighbours::fixed(l, st, r) {
         return terms::push(columns, values, 0, r, numbers::one());

@@ -5,6 +5,7 @@ use mathlib.Core.Path.{_≡_, refl, sym, ap, _∙_}
 use mathlib.Core.Bool.{Bool, true, false, not}
 use mathlib.Core.List.{List}
 use borrow.Author.Tests.{lt-ltb, le-ltb}
+use lib.ListN.{length, replicate}
 use lib.Ieee.{Float}
 use Rattle.numbers.specs.declared.C64.{C64}
 use Rattle.numbers.specs.Places.{numberAt}
@@ -22,7 +23,7 @@ use Rattle.lattice.specs.declared.levels.LevelLines.{LevelLines}
 use Rattle.lattice.specs.declared.stretched.Stretched.{Stretched}
 use Rattle.lattice.proofs.CheckLaws.{told}
 use Rattle.lattice.proofs.Equations.{stretchedOf-is}
-use Rattle.lattice_c.specs.Exports.{Handed, latticeIn, mediumIn, checkWith, answered, untouched, lineCells, lineEnds, levelsIn, LevelsLeft, mapsGiven, MapsLeft, AllLaid, rowsBy, edgesIn, RowsLeft}
+use Rattle.lattice_c.specs.Exports.{Handed, latticeIn, fullIn, checkWith, answered, untouched, zeroed, lineCells, lineEnds, levelsIn, LevelsLeft, mapsGiven, MapsLeft, AllLaid, rowsBy, edgesIn, RowsLeft}
 
 -- ---- answers
 
@@ -33,6 +34,14 @@ checked-untouched (Cells place) = refl
 checked-untouched (Scalar place) = refl
 checked-untouched (Length place) = refl
 checked-untouched (Entry place) = refl
+
+-- none of them leaves zeros
+pub checked-zeroed : (c : Checked) → zeroed (verdictOf c) ≡ false
+checked-zeroed Sound = refl
+checked-zeroed (Cells place) = refl
+checked-zeroed (Scalar place) = refl
+checked-zeroed (Length place) = refl
+checked-zeroed (Entry place) = refl
 
 -- ---- lines
 
@@ -47,15 +56,29 @@ module _ (h : Handed) {v : Lattice} (same : v ≡ latticeIn h) (coarsest : ℕ) 
   pub levels-none : (out : List ℕ) {counts ends out′ : List ℕ} → out′ ≡ answered (verdict (f .answer)) out → r ≡ true → LevelsLeft h coarsest out counts ends out′ counts ends
   levels-none out o q = record { answer-left = o ∙ ap (λ w. answered w out) (found .answer-is); cells-left = rw (known q); ends-left = rw (known q) }
 
-  pub levels-all : (out counts ends : List ℕ) {out′ counts′ ends′ : List ℕ} → out′ ≡ answered (verdict (f .answer)) out → r ≡ false
-      → (counts′ ≡ laid counts 0 (rows (lineCells (f .lines)) 36)) × (ends′ ≡ laid ends 0 (rows (lineEnds (f .lines)) 36))
-      → LevelsLeft h coarsest out counts ends out′ counts′ ends′
-  levels-all out counts ends o q w =
-      record {
-        answer-left = o ∙ ap (λ w. answered w out) (found .answer-is);
-        cells-left = rw (known q) (w .0 ∙ ap (λ ls. laid counts 0 (rows (lineCells ls) 36)) (found .lines-are));
-        ends-left = rw (known q) (w .1 ∙ ap (λ ls. laid ends 0 (rows (lineEnds ls) 36)) (found .lines-are));
-      }
+  -- not untouched, and z tells whether zeroed
+  module _ (q : r ≡ false) {z : Bool} (t : z ≡ zeroed (verdict (f .answer))) where
+    known-zeroed : {b : Bool} → z ≡ b → zeroed (levelsIn h coarsest) ≡ b
+    known-zeroed u = ap zeroed (sym (found .answer-is)) ∙ (sym t ∙ u)
+
+    pub levels-zero : (out : List ℕ) {counts ends out′ counts′ ends′ : List ℕ} → out′ ≡ answered (verdict (f .answer)) out → z ≡ true
+        → counts′ ≡ replicate (length counts) 0 → ends′ ≡ replicate (length ends) 0 → LevelsLeft h coarsest out counts ends out′ counts′ ends′
+    levels-zero out o u x y =
+        record {
+          answer-left = o ∙ ap (λ w. answered w out) (found .answer-is);
+          cells-left = rw (known q, known-zeroed u) x;
+          ends-left = rw (known q, known-zeroed u) y;
+        }
+
+    pub levels-all : (out counts ends : List ℕ) {out′ counts′ ends′ : List ℕ} → out′ ≡ answered (verdict (f .answer)) out → z ≡ false
+        → (counts′ ≡ laid counts 0 (rows (lineCells (f .lines)) 36)) × (ends′ ≡ laid ends 0 (rows (lineEnds (f .lines)) 36))
+        → LevelsLeft h coarsest out counts ends out′ counts′ ends′
+    levels-all out counts ends o u w =
+        record {
+          answer-left = o ∙ ap (λ w. answered w out) (found .answer-is);
+          cells-left = rw (known q, known-zeroed u) (w .0 ∙ ap (λ ls. laid counts 0 (rows (lineCells ls) 36)) (found .lines-are));
+          ends-left = rw (known q, known-zeroed u) (w .1 ∙ ap (λ ls. laid ends 0 (rows (lineEnds ls) 36)) (found .lines-are));
+        }
 
 -- ---- maps
 
@@ -78,10 +101,10 @@ module _ (h : Handed) (axis : ℕ) {v : Lattice} (b : axis < 3) (same : v ≡ la
       → xs′ ≡ laidNumbers xs 0 (s .across) → ys′ ≡ laidNumbers ys 0 (s .along) → n ≡ nOf (v .grid) axis
       → MapsLeft h axis xs ys xs′ ys′ (2 * n + 1)
   maps-all {l} {s} xs ys q d k o u m =
-      let t : s ≡ record { across = acrossMap (mediumIn h) axis; along = alongMap (mediumIn h) axis } =
+      let t : s ≡ record { across = acrossMap (fullIn h) axis; along = alongMap (fullIn h) axis } =
       k
       ∙ (ap (λ u. stretchedOf u axis) (d ∙ ap (λ u. latticeOf u (h .xn) (h .xh) (h .yn) (h .yh) (h .zn) (h .zh)) same)
-      ∙ stretchedOf-is (mediumIn h) axis) in
+      ∙ stretchedOf-is (fullIn h) axis) in
       record {
         across = rw (given q) (o ∙ ap (λ u. laidNumbers xs 0 (u .across)) t);
         along = rw (given q) (u ∙ ap (λ u. laidNumbers ys 0 (u .along)) t);

@@ -4,8 +4,8 @@ use Prim.Native.Nat.{ℕ, _+_, _*_}
 use mathlib.Core.Path.{_≡_}
 use mathlib.Core.Bool.{Bool, false, _&&_, cond}
 use mathlib.Core.List.{List, [], _∷_}
-use lib.Dec.{ltb}
-use lib.ListN.{length, getD}
+use lib.Dec.{ltb, leb}
+use lib.ListN.{length, getD, replicate}
 use lib.Ieee.{Float, nan}
 use lib.Ieee as Ieee
 use Rattle.numbers.specs.declared.C64.{C64}
@@ -80,8 +80,8 @@ handed cells scalars xn xh yn yh zn zh = record { cells = cells; scalars = scala
 abbrev pub latticeIn : Handed → Lattice
 latticeIn h = inputOf (h .cells) (h .scalars)
 
-abbrev pub mediumIn : Handed → FullLattice
-mediumIn h = latticeOf (latticeIn h) (h .xn) (h .xh) (h .yn) (h .yh) (h .zn) (h .zh)
+abbrev pub fullIn : Handed → FullLattice
+fullIn h = latticeOf (latticeIn h) (h .xn) (h .xh) (h .yn) (h .yh) (h .zn) (h .zh)
 
 -- what the checks say, without permittivities and with them
 abbrev pub checkIn : Handed → Verdict
@@ -97,10 +97,18 @@ abbrev pub answered : Verdict → List ℕ → List ℕ
 answered (accepted n) out = laid out 0 (0 ∷ (n ∷ []))
 answered (refused number place) out = laid out 0 (number ∷ (place ∷ []))
 
--- refusals 1 to 4 leave the lists as they were
+-- refusals 1 to 4 leave the lists as they were, 5 leaves zero in every place
 abbrev pub untouched : Verdict → Bool
 untouched (accepted n) = false
 untouched (refused number place) = ltb number 5
+
+abbrev pub zeroed : Verdict → Bool
+zeroed (accepted n) = false
+zeroed (refused number place) = leb 5 number
+
+-- what an answer leaves in a list: values from its beginning on, unless it is a refusal
+abbrev pub listLeft : Verdict → List ℕ → List ℕ → List ℕ
+listLeft a xs vs = cond (untouched a) xs (cond (zeroed a) (replicate (length xs) 0) (laid xs 0 vs))
 
 -- ---- lines, maps and rows, one behind another
 
@@ -124,16 +132,16 @@ linesIn h coarsest = levelLinesOf (latticeIn h) (h .xn) (h .xh) (h .yn) (h .yh) 
 -- what they leave
 pub record LevelsLeft (h : Handed) (coarsest : ℕ) (out counts ends out′ counts′ ends′ : List ℕ) : Type 0 where
   pub answer-left : out′ ≡ answered (levelsIn h coarsest) out
-  pub cells-left : counts′ ≡ cond (untouched (levelsIn h coarsest)) counts (laid counts 0 (rows (lineCells (linesIn h coarsest)) 36))
-  pub ends-left : ends′ ≡ cond (untouched (levelsIn h coarsest)) ends (laid ends 0 (rows (lineEnds (linesIn h coarsest)) 36))
+  pub cells-left : counts′ ≡ listLeft (levelsIn h coarsest) counts (rows (lineCells (linesIn h coarsest)) 36)
+  pub ends-left : ends′ ≡ listLeft (levelsIn h coarsest) ends (rows (lineEnds (linesIn h coarsest)) 36)
 
 -- what the maps of an axis leave: nothing where the input is refused or there is no such axis
 abbrev pub mapsGiven : Handed → ℕ → Bool
 mapsGiven h axis = ltb axis 3 && isSound (checkIn h)
 
 pub record MapsLeft (h : Handed) (axis : ℕ) (xs ys xs′ ys′ : List Float) (r : ℕ) : Type 0 where
-  pub across : xs′ ≡ cond (mapsGiven h axis) (laidNumbers xs 0 (acrossMap (mediumIn h) axis)) xs
-  pub along : ys′ ≡ cond (mapsGiven h axis) (laidNumbers ys 0 (alongMap (mediumIn h) axis)) ys
+  pub across : xs′ ≡ cond (mapsGiven h axis) (laidNumbers xs 0 (acrossMap (fullIn h) axis)) xs
+  pub along : ys′ ≡ cond (mapsGiven h axis) (laidNumbers ys 0 (alongMap (fullIn h) axis)) ys
   pub count : r ≡ cond (mapsGiven h axis) (2 * nOf (latticeIn h .grid) axis + 1) 0
 
 -- n rows have been laid from the lists' beginnings on, and r is how many terms they have
@@ -143,7 +151,7 @@ pub record AllLaid (row : ℕ → List Term) (n : ℕ) (ss cs : List ℕ) (xs : 
 
 -- the rows of a lattice with its permittivities, by a rule of rows, and how many there are
 abbrev pub rowsBy : (FullLattice → (ℕ → C64) → ℕ → List Term) → Handed → List Float → ℕ → List Term
-rowsBy row h eps = row (mediumIn h) (numberAt eps)
+rowsBy row h eps = row (fullIn h) (numberAt eps)
 
 abbrev pub edgesIn : Handed → ℕ
 edgesIn h = unknownsOf (latticeIn h .grid)

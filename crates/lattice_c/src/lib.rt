@@ -15,7 +15,7 @@ ghost use Rattle.lattice.specs.Lattice.{fullLattice};
 ghost use Rattle.lattice.specs.Rows.{rowInto};
 ghost use Rattle.lattice.specs.Check.{verdictOf};
 ghost use Rattle.lattice.specs.Levels.{verdict};
-ghost use Rattle.lattice_c.specs.Exports.{edgesFrom, noInput, inputOf, handed, checkWith, answered, untouched as untouchedBy, lineCells, lineEnds, MapsLeft, AllLaid, RowsLeft, LevelsLeft};
+ghost use Rattle.lattice_c.specs.Exports.{edgesFrom, noInput, inputOf, handed, checkWith, answered, untouched as untouchedBy, zeroed as zeroedBy, lineCells, lineEnds, MapsLeft, AllLaid, RowsLeft, LevelsLeft};
 use lattice::check;
 use lattice::check::Checked;
 use lattice::grid;
@@ -133,6 +133,17 @@ fn untouched(a: Answer) -> bool
     }
 }
 
+// Whether it leaves zero in every place: refusal 5.
+fn zeroed(a: Answer) -> bool
+    ensures { λ r. ⌜ r ≡ zeroedBy (verdict a) ⌝ }
+{
+    match a {
+        Answer::Levels(_) => false,
+        Answer::Refused(_c) => false,
+        Answer::TooMany => true,
+    }
+}
+
 // Refusals 1 to 4: number and place in `out`, 0 and 0 where the input is sound.
 #[no_mangle]
 pub extern "C" fn lattice_check(
@@ -147,7 +158,8 @@ pub extern "C" fn lattice_check(
     eps: &[f64],
     out: &mut [usize],
 )
-    ensures { λ _. ⌜ now (out .exit) ≡ answered (checkWith (handed (now (cells .entry)) (now (scalars .entry)) (now (xn .entry)) (now (xh .entry)) (now (yn .entry)) (now (yh .entry)) (now (zn .entry)) (now (zh .entry))) (now (eps .entry))) (now (out .entry)) ⌝ }
+    ensures { λ _. ⌜ now (out .exit) ≡ answered (checkWith (handed (now (cells .entry)) (now (scalars .entry)) (now (xn .entry)) (now (xh .entry))
+        (now (yn .entry)) (now (yh .entry)) (now (zn .entry)) (now (zh .entry))) (now (eps .entry))) (now (out .entry)) ⌝ }
 {
     answer(
         check::check(input(cells, scalars), xn, xh, yn, yh, zn, zh, eps),
@@ -182,8 +194,8 @@ fn put_lines(lines: [Line; 36], counts: &mut [usize], ends: &mut [usize])
     }
 }
 
-// Refusals 1 to 5 as above, or 0 and the level count; the cells of axis a on level L at 3 L + a, and its ends from 65 (3 L + a) on; zeros elsewhere. After
-// refusals 1 to 4 these two lists are untouched.
+// Refusals 1 to 5 as above, or 0 and the level count; the cells of axis a on level L at 3 L + a, and its ends from 65 (3 L + a) on; zeros behind, to 36
+// lines. After refusals 1 to 4 these two lists are untouched, after 5 they are zero in every place.
 #[no_mangle]
 pub extern "C" fn lattice_levels(
     cells: &[usize],
@@ -199,15 +211,23 @@ pub extern "C" fn lattice_levels(
     counts: &mut [usize],
     ends: &mut [usize],
 )
-    ensures { λ _. ⌜ LevelsLeft (handed (now (cells .entry)) (now (scalars .entry)) (now (xn .entry)) (now (xh .entry)) (now (yn .entry)) (now (yh .entry)) (now (zn .entry)) (now (zh .entry))) coarsest (now (out .entry)) (now (counts .entry)) (now (ends .entry)) (now (out .exit)) (now (counts .exit)) (now (ends .exit)) ⌝ }
+    ensures { λ _. ⌜ LevelsLeft (handed (now (cells .entry)) (now (scalars .entry)) (now (xn .entry)) (now (xh .entry)) (now (yn .entry)) (now (yh .entry))
+        (now (zn .entry)) (now (zh .entry))) coarsest (now (out .entry)) (now (counts .entry)) (now (ends .entry)) (now (out .exit)) (now (counts .exit))
+        (now (ends .exit)) ⌝ }
 {
     let found = levels::levels(input(cells, scalars), xn, xh, yn, yh, zn, zh, coarsest);
     let a = found.answer;
     let lines = found.lines;
     answer_levels(a, out);
-    if !untouched(a) {
-        put_lines(lines, counts, ends);
+    if untouched(a) {
+        return;
     }
+    if zeroed(a) {
+        lists::zeros(counts);
+        lists::zeros(ends);
+        return;
+    }
+    put_lines(lines, counts, ends);
 }
 
 // ---- maps
@@ -235,7 +255,8 @@ pub extern "C" fn lattice_maps(
     across: &mut [f64],
     along: &mut [f64],
 ) -> usize
-    ensures { λ r. ⌜ MapsLeft (handed (now (cells .entry)) (now (scalars .entry)) (now (xn .entry)) (now (xh .entry)) (now (yn .entry)) (now (yh .entry)) (now (zn .entry)) (now (zh .entry))) axis (now (across .entry)) (now (along .entry)) (now (across .exit)) (now (along .exit)) r ⌝ }
+    ensures { λ r. ⌜ MapsLeft (handed (now (cells .entry)) (now (scalars .entry)) (now (xn .entry)) (now (xh .entry)) (now (yn .entry)) (now (yh .entry))
+        (now (zn .entry)) (now (zh .entry))) axis (now (across .entry)) (now (along .entry)) (now (across .exit)) (now (along .exit)) r ⌝ }
 {
     if axis > 2 {
         return 0;
@@ -269,7 +290,8 @@ fn put_row(
     requires { ⌜ r < unknownsOf (l .grid) ⌝ }
     requires { ⌜ 2 * unknownsOf (l .grid) ≤ length (now eps) ⌝ }
     requires { ⌜ from < 1000000 ⌝ }
-    ensures { λ n. ⌜ Wrote (now (columns .entry)) (now (values .entry)) from (rowInto (fullLattice l (now (st .entry))) (numberAt (now (eps .entry))) r) (now (columns .exit)) (now (values .exit)) n ⌝ }
+    ensures { λ n. ⌜ Wrote (now (columns .entry)) (now (values .entry)) from (rowInto (fullLattice l (now (st .entry))) (numberAt (now (eps .entry))) r)
+        (now (columns .exit)) (now (values .exit)) n ⌝ }
 {
     let a = lists::lesser(from, columns.len());
     let b = lists::lesser(2 * from, values.len());
@@ -289,7 +311,8 @@ fn put_rows(
     requires { ⌜ Limits (l .grid) ⌝ }
     requires { ⌜ n ≡ unknownsOf (l .grid) ⌝ }
     requires { ⌜ 2 * unknownsOf (l .grid) ≤ length (now eps) ⌝ }
-    ensures { λ r. ⌜ AllLaid (rowInto (fullLattice l (now (st .entry))) (numberAt (now (eps .entry)))) n (now (starts .entry)) (now (columns .entry)) (now (values .entry)) (now (starts .exit)) (now (columns .exit)) (now (values .exit)) r ⌝ }
+    ensures { λ r. ⌜ AllLaid (rowInto (fullLattice l (now (st .entry))) (numberAt (now (eps .entry)))) n (now (starts .entry)) (now (columns .entry))
+        (now (values .entry)) (now (starts .exit)) (now (columns .exit)) (now (values .exit)) r ⌝ }
 {
     let mut from = 0;
     for r in 0..n {
@@ -317,7 +340,9 @@ pub extern "C" fn lattice_rows(
     columns: &mut [usize],
     values: &mut [f64],
 ) -> usize
-    ensures { λ r. ⌜ RowsLeft rowInto (handed (now (cells .entry)) (now (scalars .entry)) (now (xn .entry)) (now (xh .entry)) (now (yn .entry)) (now (yh .entry)) (now (zn .entry)) (now (zh .entry))) (now (eps .entry)) (now (starts .entry)) (now (columns .entry)) (now (values .entry)) (now (starts .exit)) (now (columns .exit)) (now (values .exit)) r ⌝ }
+    ensures { λ r. ⌜ RowsLeft rowInto (handed (now (cells .entry)) (now (scalars .entry)) (now (xn .entry)) (now (xh .entry)) (now (yn .entry)) (now (yh .entry))
+        (now (zn .entry)) (now (zh .entry))) (now (eps .entry)) (now (starts .entry)) (now (columns .entry)) (now (values .entry)) (now (starts .exit))
+        (now (columns .exit)) (now (values .exit)) r ⌝ }
 {
     let v = input(cells, scalars);
     if !check::is_sound(check::check(v, xn, xh, yn, yh, zn, zh, eps)) {

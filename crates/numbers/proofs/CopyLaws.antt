@@ -17,12 +17,11 @@ use lib.Ieee.{Float}
 use Rattle.numbers.specs.declared.C64.{C64}
 use Rattle.numbers.specs.Complex.{sum}
 use Rattle.numbers.specs.Places.{setNumber}
-use Rattle.numbers.specs.Lists.{tabulate, each, rows, laidBy, laid, laidNumbers, Laid, startOf, startsOf, before, summed, Rises}
+use Rattle.numbers.specs.Lists.{In, tabulate, each, rows, laidBy, laid, laidNumbers, Laid, startOf, startsOf, before, summed, Rises}
 use Rattle.numbers.specs.Terms.{Term, columnsOf, numbersOf, Wrote, LaidRows}
 use Rattle.numbers.proofs.Laws.{set-inside, set-outside}
 use Rattle.numbers.proofs.ListLaws.{laid-none, laid-append, rows-most, tabulate-more}
 use Rattle.numbers.proofs.TermLaws.{wrote-none, wrote-append}
-use Rattle.numbers.proofs.MemberLaws.{In}
 
 -- ---- a loop that lays the first n values of a list one after another, c of them done
 

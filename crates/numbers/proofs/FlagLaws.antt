@@ -7,9 +7,8 @@ use mathlib.Core.Bool.{Bool, true, false, false≢true, _||_}
 use mathlib.Core.List.{List, [], _∷_, _++_}
 use native.Mathlib.Omega.{arith}
 use lib.ListN.{getD}
-use Rattle.numbers.specs.Lists.{tabulate, each, anyFlag}
+use Rattle.numbers.specs.Lists.{In, tabulate, each, anyFlag}
 use Rattle.numbers.proofs.Laws.{either-of, or-left, or-right, or-true, or-false}
-use Rattle.numbers.proofs.MemberLaws.{In}
 
 pub anyFlag-nil : (fs : List Bool) → anyFlag fs [] ≡ false
 unfolding anyFlag

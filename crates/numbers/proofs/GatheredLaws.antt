@@ -16,7 +16,7 @@ use lib.Ieee.{Float}
 use Rattle.numbers.specs.declared.C64.{C64}
 use Rattle.numbers.specs.Complex.{finite}
 use Rattle.numbers.specs.Places.{numberAt}
-use Rattle.numbers.specs.Lists.{Rises, tabulate, each, rows, placesIn, allFinite, readFrom, contains, anyFlag}
+use Rattle.numbers.specs.Lists.{In, Rises, tabulate, each, rows, placesIn, allFinite, readFrom, contains, anyFlag}
 use Rattle.numbers.specs.Terms.{Term, columnsOf, numbersOf, termsIn}
 use Rattle.numbers.specs.Collect.{inserted, collected}
 use Rattle.numbers.proofs.Laws.{parts, either-of, or-left, or-right, or-true, or-false}
@@ -25,7 +25,7 @@ use Rattle.numbers.proofs.FlagLaws.{anyFlag-append}
 use Rattle.numbers.proofs.LoopLaws.{columns-one}
 use Rattle.numbers.proofs.ListLaws.{tabulate-more}
 use Rattle.numbers.proofs.TermLaws.{Holds}
-use Rattle.numbers.proofs.MemberLaws.{In, Span, contains-in, in-contains}
+use Rattle.numbers.proofs.MemberLaws.{Span, contains-in, in-contains}
 use Rattle.numbers.proofs.CollectLaws.{inserted-columns-same, collected-columns-same, From, none, more}
 
 -- ---- columns of terms

@@ -10,14 +10,10 @@ use native.Mathlib.Decide.{ℕ-discrete}
 use native.Mathlib.Nat.{le-refl, suc-mul, zero-mul}
 use borrow.Author.Tests.{eq-eqb, eqb-true}
 use lib.Dec.{eqb}
-use Rattle.numbers.specs.Lists.{each, rows, contains}
+use Rattle.numbers.specs.Lists.{In, each, rows, contains}
 use Rattle.numbers.specs.Terms.{Term, columnsOf}
 use Rattle.numbers.proofs.Laws.{either-of, or-left, or-right}
 use Rattle.numbers.proofs.EachLaws.{All, more, columns-append}
-
-abbrev pub In : ℕ → List ℕ → Type 0
-In c [] = ⊥
-In c (v ∷ vs) = (c ≡ v) ⊎ In c vs
 
 -- rises strictly, from b on and below e
 abbrev pub Span : ℕ → ℕ → List ℕ → Type 0
@@ -32,16 +28,16 @@ pub span-append : (b m e : ℕ) (us vs : List ℕ) → Span b m us → Span m e 
 span-append b m e [] vs s t = span-wider m b e vs s t
 span-append b m e (u ∷ us) vs s t = (s .0, span-append (suc u) m e us vs (s .1) t)
 
-pub in-append : (c : ℕ) (us vs : List ℕ) → In c (us ++ vs) → In c us ⊎ In c vs
+pub in-append : {A : Type 0} (c : A) (us vs : List A) → In c (us ++ vs) → In c us ⊎ In c vs
 in-append c [] vs i = inr i
 in-append c (u ∷ us) vs (inl e) = inl (inl e)
 in-append c (u ∷ us) vs (inr i) = ⊎-elim (λ j. inl (inr j)) (λ j. inr j) (in-append c us vs i)
 
-pub in-left : (c : ℕ) (us vs : List ℕ) → In c us → In c (us ++ vs)
+pub in-left : {A : Type 0} (c : A) (us vs : List A) → In c us → In c (us ++ vs)
 in-left c (u ∷ us) vs (inl e) = inl e
 in-left c (u ∷ us) vs (inr i) = inr (in-left c us vs i)
 
-pub in-right : (c : ℕ) (us vs : List ℕ) → In c vs → In c (us ++ vs)
+pub in-right : {A : Type 0} (c : A) (us vs : List A) → In c vs → In c (us ++ vs)
 in-right c [] vs i = i
 in-right c (u ∷ us) vs i = inr (in-right c us vs i)
 

@@ -8,19 +8,17 @@ use mathlib.Core.Path.{_≡_, refl, sym, ap, _∙_}
 use mathlib.Core.Bool.{Bool, true, false, _||_, cond}
 use mathlib.Core.List.{List, [], _∷_, _++_}
 use lib.Dec.{eqb}
-use lib.ListN.{length, getD, replicate, getD-replicate}
+use lib.ListN.{length, getD, replicate}
 use lib.Ieee.{Float, nan}
 use Rattle.numbers.specs.declared.C64.{C64}
 use Rattle.numbers.specs.Complex.{zeroF, zeroNumber, sum}
 use Rattle.numbers.specs.Places.{places, numberAt}
-use Rattle.numbers.specs.Lists.{each, rows, laidBy, laid, laidNumbers, contains, startOf}
+use Rattle.numbers.specs.Lists.{In, each, rows, laidBy, laid, laidNumbers, contains, startOf}
 use Rattle.numbers.specs.Terms.{Term, columnsOf, termsIn, storedRow, Stored}
 use Rattle.numbers.specs.Collect.{summedAt}
-use Rattle.numbers.proofs.Laws.{parts}
 use Rattle.numbers.proofs.TabulateLaws.{is-replicate}
 use Rattle.numbers.proofs.TermLaws.{length-in}
 use Rattle.numbers.proofs.ListLaws.{laid-behind-laid, laid-length, laid-before, laid-numbers-length, laid-numbers-before, rows-length, rows-room, rows-at, rows-most}
-use Rattle.numbers.proofs.MemberLaws.{In}
 use Rattle.numbers.proofs.TransposeLaws.{row-of}
 
 -- ---- sums by column
@@ -53,10 +51,6 @@ places-of xs n e = omega arith
 
 -- of zeros
 module _ (n m : ℕ) (even : m ≡ 2 * n) where
-  pub zeros-at : (d : ℕ) → d < n → numberAt (replicate m zeroF) d ≡ zeroNumber
-  unfolding numberAt zeroNumber
-  zeros-at d h = parts (getD-replicate m (2 * d) zeroF nan (omega arith)) (getD-replicate m (2 * d + 1) zeroF nan (omega arith))
-
   pub zeros-are : (xs : List Float) → length xs ≡ m → ((d : ℕ) → d < n → numberAt xs d ≡ zeroNumber) → xs ≡ replicate m zeroF
   unfolding numberAt zeroNumber
   zeros-are xs long h = is-replicate m zeroF nan xs long (λ i b. at i b (ℕ-discrete i (2 * (i / 2))))

@@ -16,11 +16,11 @@ use lib.Ieee.{Float}
 use Rattle.numbers.specs.declared.C64.{C64}
 use Rattle.numbers.specs.Complex.{noNumber}
 use Rattle.numbers.specs.Places.{numberAt}
-use Rattle.numbers.specs.Lists.{Rises, rows, startOf, contains, repeats, someRepeats}
+use Rattle.numbers.specs.Lists.{In, Rises, rows, startOf, contains, repeats, someRepeats}
 use Rattle.numbers.specs.Terms.{Term, columnsOf, numbersOf, weightsAt, storedRow, LaidRows}
 use Rattle.numbers.specs.Transpose.{turnedFrom, turnedPart, turnedRow, foundFrom, foundPart, turnedReads}
 use Rattle.numbers.proofs.EachLaws.{columns-append, numbers-append, length-columns, length-numbers}
-use Rattle.numbers.proofs.MemberLaws.{In, rows-in, in-rows}
+use Rattle.numbers.proofs.MemberLaws.{rows-in, in-rows}
 use Rattle.numbers.proofs.TermLaws.{terms-read}
 use Rattle.numbers.proofs.ListLaws.{through, laid-at, laid-numbers-at, rows-agree, rows-length, rows-room, rows-at, starts-laid}
 

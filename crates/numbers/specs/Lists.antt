@@ -2,6 +2,7 @@
 -- Assumes nothing.
 use Prim.Native.Nat.{ℕ, zero, suc, _+_, _*_, _<_}
 use mathlib.Core.Path.{_≡_}
+use mathlib.Core.Logic.{_⊎_}
 use mathlib.Core.Bool.{Bool, true, false, _&&_, _||_, cond}
 use mathlib.Core.List.{List, [], _∷_, _++_}
 use lib.Dec.{eqb, ltb}
@@ -59,6 +60,11 @@ startOf row r = length (rows row r)
 
 unfoldable pub startsOf : {A : Type 0} → (ℕ → List A) → ℕ → List ℕ
 startsOf row n = tabulate (startOf row) (n + 1) 0
+
+-- a stands in the list
+abbrev pub In : {A : Type 0} → A → List A → Type 0
+In a [] = ⊥
+In a (b ∷ bs) = (a ≡ b) ⊎ In a bs
 
 unfoldable pub contains : ℕ → List ℕ → Bool
 contains c [] = false

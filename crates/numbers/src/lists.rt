@@ -3,10 +3,10 @@
 ghost use mathlib.Core.Path.{_≡_};
 ghost use mathlib.Core.Bool.{false};
 ghost use mathlib.Core.List.{[], _∷_};
-ghost use Prim.Native.Nat.{_+_, _*_, _<_, _≤_, _^_, min};
-ghost use lib.ListN.{length, getD, set};
+ghost use Prim.Native.Nat.{_+_, _-_, _*_, _<_, _≤_, _^_, min};
+ghost use lib.ListN.{length, getD, set, replicate};
 ghost use Rattle.numbers.specs.Places.{setNumber, numberAt};
-ghost use Rattle.numbers.specs.Lists.{tabulate, Laid, allFinite, anyFlag, placesIn};
+ghost use Rattle.numbers.specs.Lists.{tabulate, Laid, allFinite, anyFlag, placesIn, contains as containsIn, repeats as repeatsIn};
 use crate::C64;
 
 // The lesser of two whole numbers.
@@ -39,6 +39,16 @@ pub fn push_number(list: &mut [f64], k: usize, v: C64) -> usize
     k + 1
 }
 
+// Zero in every place.
+pub fn zeros(list: &mut [usize])
+    ensures { λ _. ⌜ now (list .exit) ≡ replicate (length (now (list .entry))) 0 ⌝ }
+{
+    let n = list.len();
+    for k in 0..n {
+        list[k] = 0;
+    }
+}
+
 // Whether the n numbers from place k on are finite. `requires`: the list has them.
 pub fn finite_numbers(list: &[f64], k: usize, n: usize) -> bool
     requires { ⌜ (k + n < 2 ^ 40) × (2 * (k + n) ≤ length (now list)) ⌝ }
@@ -69,6 +79,32 @@ pub fn any_flag(flags: &[bool], columns: &[usize], k: usize, n: usize) -> bool
 {
     for m in 0..n {
         if flagged(flags, columns[k + m]) {
+            return true;
+        }
+    }
+    false
+}
+
+// Whether one of the columns from place m to place n - 1 is c.
+fn contains_from(columns: &[usize], m: usize, n: usize, c: usize) -> bool
+    requires { ⌜ n ≤ length (now columns) ⌝ }
+    ensures { λ r. ⌜ r ≡ containsIn c (placesIn (now (columns .entry)) m (n - m)) ⌝ }
+{
+    for q in m..n {
+        if columns[q] == c {
+            return true;
+        }
+    }
+    false
+}
+
+// Whether a column stands twice among the first n.
+pub fn repeats(columns: &[usize], n: usize) -> bool
+    requires { ⌜ n ≤ length (now columns) ⌝ }
+    ensures { λ r. ⌜ r ≡ repeatsIn (placesIn (now (columns .entry)) 0 n) ⌝ }
+{
+    for m in 0..n {
+        if contains_from(columns, m + 1, n, columns[m]) {
             return true;
         }
     }

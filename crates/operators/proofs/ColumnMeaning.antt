@@ -12,7 +12,8 @@ use Rattle.operators.specs.Bits.{bitAt, mixOf}
 use Rattle.operators.specs.Columns.{keep, line, plane, block, row, picked, number}
 use Rattle.operators.specs.declared.columns.Picks.{Picks}
 use Rattle.operators.proofs.WordLaws.{bit-mix}
-use Rattle.numbers.proofs.MemberLaws.{In, Span, span-append, stack, stack-zero, stack-suc, stack-span, stack-in, in-stack}
+use Rattle.numbers.proofs.MemberLaws.{Span, span-append, stack, stack-zero, stack-suc, stack-span, stack-in, in-stack}
+use Rattle.numbers.specs.Lists.{In}
 
 -- lines
 line-span : (w base n i b e : ℕ) → b ≤ base + i → base + (i + n) ≤ e → Span b e (line w base n i)

@@ -17,7 +17,8 @@ use Rattle.operators.specs.declared.columns.Picks.{Picks}
 use Rattle.operators.proofs.RelationLaws.{and-both, both-and}
 use Rattle.numbers.proofs.Laws.{either-of, or-left, or-right}
 use Rattle.operators.proofs.PatternTheorem.{row-live}
-use Rattle.numbers.proofs.MemberLaws.{In, Span, in-append, in-left, in-right, unique}
+use Rattle.numbers.proofs.MemberLaws.{Span, in-append, in-left, in-right, unique}
+use Rattle.numbers.specs.Lists.{In}
 use Rattle.operators.proofs.ColumnMeaning.{block-in, in-block, row-span}
 
 -- the words of a row of component a at p, for the columns of component b

@@ -12,14 +12,14 @@ use lib.Ieee as Ieee
 use Rattle.numbers.specs.declared.C64.{C64}
 use Rattle.numbers.specs.Complex.{zeroF}
 use Rattle.numbers.specs.Collect.{collected, atFirst}
-use Rattle.numbers.specs.Lists.{contains, startOf}
+use Rattle.numbers.specs.Lists.{In, contains, startOf}
 use Rattle.numbers.specs.Terms.{Term, columnsOf}
 use Rattle.numbers.specs.Transpose.{turnedRow}
 use Rattle.numbers.proofs.CollectLaws.{collected-columns-same}
 use Rattle.numbers.proofs.CollectSums.{in-at}
 use Rattle.numbers.proofs.EachLaws.{length-columns}
 use Rattle.numbers.proofs.Equations.{columnsOf-nil, columnsOf-cons, contains-nil}
-use Rattle.numbers.proofs.MemberLaws.{In, each-in, in-each, in-contains}
+use Rattle.numbers.proofs.MemberLaws.{each-in, in-each, in-contains}
 use Rattle.numbers.proofs.Tutorial.{turned-columns}
 use Rattle.lattice.specs.declared.grid.Grid3d.{Grid3d}
 use Rattle.lattice.specs.Grid.{Limits, unknownsOf}

@@ -10,7 +10,7 @@ use Rattle.numbers.specs.declared.C64.{C64}
 use Rattle.lattice.specs.Grid.{unknownsOf, Limits}
 use Rattle.lattice.specs.Lattice.{FullLattice}
 use Rattle.numbers.specs.Terms.{Term, columnsOf, Wrote}
-use Rattle.numbers.specs.Lists.{each}
+use Rattle.numbers.specs.Lists.{In, each}
 use Rattle.numbers.proofs.TermLaws.{Holds, read-back}
 use Rattle.operators.specs.Stencil.{stencilRow}
 use Rattle.numbers.specs.declared.terms.Part.{Part}
@@ -18,7 +18,6 @@ use Rattle.operators.specs.declared.galerkin.FineRows.{FineRows}
 use Rattle.operators.specs.declared.galerkin.FineRows.the-variants.{Computed, Stored as StoredFrom}
 use Rattle.operators.specs.Galerkin.{forwardTerms, fineTerms, rowsIn, fineRow, Gathered, ColumnsBelow}
 use Rattle.numbers.proofs.StoredLaws.{in-terms}
-use Rattle.numbers.proofs.MemberLaws.{In}
 use Rattle.operators.proofs.GalerkinPattern.{stencil-low}
 
 -- a row that was laid over two lists, read back

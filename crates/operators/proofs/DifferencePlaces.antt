@@ -26,7 +26,8 @@ use Rattle.lattice.proofs.GridLaws.{place-inside, moved-inside, with-inside, sh
 use Rattle.operators.specs.Relation.{Spot, Cube, Times}
 use Rattle.operators.specs.Relations0.{ahead, pick, divCube}
 use Rattle.operators.specs.Levels.{isBloch, spotOf}
-use Rattle.numbers.proofs.MemberLaws.{In, in-both, both-in}
+use Rattle.numbers.proofs.MemberLaws.{in-both, both-in}
+use Rattle.numbers.specs.Lists.{In}
 use Rattle.lattice.proofs.CurlLaws.{moved-component, with-component, with-place, to-column, here-column, ahead-is, behind-is, curlEAt-is, curlHAt-is, divergenceOf-is, gradientAt-is}
 use Rattle.operators.proofs.NeighbourSpots.{stepOn, step-none, shift-step, step-shift, moveCube, low3, moved-times, times-moved}
 use Rattle.operators.proofs.ListedPlaces.{Found, Lists, lists-same, lists-append, lists-free}

@@ -24,7 +24,7 @@ use Rattle.lattice.proofs.LevelLaws.{line-over}
 use Rattle.weights.specs.Interpolate.{valuePlaces, takenPlaces}
 use Rattle.weights.specs.Product.{walled, freePlaces, productColumns}
 use Rattle.weights.specs.Prolongation.{axisPlaces, isAlong, edgeAt}
-use Rattle.numbers.specs.Lists.{contains}
+use Rattle.numbers.specs.Lists.{In, contains}
 use Rattle.numbers.specs.Transpose.{turnedRow}
 use Rattle.weights.specs.TwoLevels.{fineLine, coarseLine, fineCells, coarseCells, fineGrid, coarseGrid, twoAt}
 use Rattle.weights.proofs.Equations.{walled-is, coarseCells-is, fineCells-is, gridWith-is, edgeAt-is, isAlong-is}
@@ -36,7 +36,7 @@ use Rattle.operators.specs.Relation.{Spot, Within, Then}
 use Rattle.operators.specs.Base.{liveAt}
 use Rattle.operators.specs.Levels.{epsAt, forwardAt, turnedAt, gridAt, forwardRel, isOwn, isBloch, ladderOf, spotOf}
 use Rattle.operators.specs.Pattern.{Role, along, across, Name, roleOf, role, Ladder, coarser, rel, box, Forward, spotEdge, Row, Sound}
-use Rattle.numbers.proofs.MemberLaws.{In, contains-in, in-contains, all-in}
+use Rattle.numbers.proofs.MemberLaws.{contains-in, in-contains, all-in}
 use Rattle.weights.proofs.TakenLaws.{taker-free, in-free, base-at, axis-places-at, coarse-cells, fine-cells, fine-grid-at, coarse-grid-at, Named, columns-named, named-columns}
 use Rattle.lattice.proofs.ColumnLaws.{index-one}
 use Rattle.numbers.proofs.Tutorial.{turned-columns}

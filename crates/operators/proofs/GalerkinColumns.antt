@@ -27,7 +27,8 @@ use Rattle.operators.specs.Levels.{galerkinAt, gridAt, isOwn, isBloch, l
 use Rattle.operators.specs.Numbered.{nameNo, picksOf, rowColumns, Right}
 use Rattle.operators.specs.Pattern.{role, Ladder, rel, SpotEdge, spotEdge, Row, Live}
 use Rattle.operators.specs.Relation.{Spot}
-use Rattle.numbers.proofs.MemberLaws.{In, Span, unique, contains-in, in-contains}
+use Rattle.numbers.proofs.MemberLaws.{Span, unique, contains-in, in-contains}
+use Rattle.numbers.specs.Lists.{In}
 use Rattle.operators.proofs.ColumnWhole.{cells, Column, row-only}
 use Rattle.weights.proofs.TakenLaws.{fixed-places}
 use Rattle.operators.proofs.ForwardPattern.{axisNo, three, row-three, rel-three, liveOn, live-free, free-live, own-role, sound-of, sound-live, grid-limits, grid-x, grid-y, grid-z, within}

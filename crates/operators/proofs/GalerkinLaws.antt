@@ -16,7 +16,7 @@ use lib.Ieee.{Float}
 use Rattle.numbers.specs.declared.C64.{C64}
 use Rattle.numbers.specs.Complex.{zeroF, oneNumber, zeroNumber, noNumber}
 use Rattle.numbers.specs.Places.{places, numberAt, setNumber}
-use Rattle.numbers.specs.Lists.{tabulate, rows, laidNumbers, allFinite, contains, startOf}
+use Rattle.numbers.specs.Lists.{In, tabulate, rows, laidNumbers, allFinite, contains, startOf}
 use Rattle.numbers.specs.Terms.{Term, columnsOf, numbersOf, Stored}
 use Rattle.numbers.specs.Collect.{atFirst, fromZero, summedAt}
 use Rattle.numbers.proofs.Equations.{each-nil, collected-nil, columnsOf-nil, columnsOf-cons, numbersOf-nil, numbersOf-cons, contains-nil, inserted-nil, atFirst-is, tabulate-zero, tabulate-suc, rows-zero, rows-suc, laidBy-nil, startOf-is}
@@ -24,7 +24,7 @@ use Rattle.numbers.proofs.Laws.{length-setNumber, number-same, number-other}
 use Rattle.numbers.proofs.TabulateLaws.{length-tabulate, tabulate-at}
 use Rattle.numbers.proofs.EachLaws.{length-columns, length-numbers}
 use Rattle.numbers.proofs.ListLaws.{laid-behind-laid, laid-numbers-length, read-back, start-agree}
-use Rattle.numbers.proofs.MemberLaws.{In, contains-in, in-contains}
+use Rattle.numbers.proofs.MemberLaws.{contains-in, in-contains}
 use Rattle.numbers.proofs.CollectSums.{in-at, number-at, sum-columns}
 use Rattle.numbers.proofs.Tutorial.{start-columns, start-numbers}
 use Rattle.lattice.specs.Lattice.{FullLattice}
@@ -32,7 +32,8 @@ use Rattle.numbers.specs.declared.terms.Part.{Part}
 use Rattle.operators.specs.declared.galerkin.FineRows.{FineRows}
 use Rattle.operators.specs.declared.galerkin.FineRows.the-variants.{Computed, Stored as StoredFrom}
 use Rattle.operators.specs.Galerkin.{fineTerms, galerkinTerms, withDiagonal, galerkinRow, galerkinColumns, galerkinNumbers, fineRowsRead, rowsIn, fineRow, FineReady, FineBefore, noSums, Gathered, Cleared, sumOf, sumsAt, ColumnsBelow, diagonalOne, Columned, Met, MetAll, RowReady, rowLaid, RowsReady, NumbersLaid}
-use Rattle.numbers.proofs.StoredLaws.{summed-none, places-of, zeros-at, zeros-are, start-room, place-of, stored-size, stored-low, stored-kept, stored-laid}
+use Rattle.numbers.proofs.ElementLaws.{zeros-at}
+use Rattle.numbers.proofs.StoredLaws.{summed-none, places-of, zeros-are, start-room, place-of, stored-size, stored-low, stored-kept, stored-laid}
 use Rattle.numbers.proofs.LoopLaws.{start-suc}
 use Rattle.operators.proofs.ComputedLaws.{row-computed, row-stored}
 use Rattle.operators.proofs.RowMembers.{terms-via, via-terms, via-row}
@@ -188,7 +189,7 @@ none-long = length-replicate {A = Float} 24576 zeroF
 
 none-zero : (d : ℕ) → d < 12288 → numberAt noSums d ≡ zeroNumber
 unfolding noSums
-none-zero d h = zeros-at 12288 24576 refl d h
+none-zero d h = zeros-at 24576 d (omega arith)
 
 none-is : (xs : List Float) → length xs ≡ 24576 → ((d : ℕ) → d < 12288 → numberAt xs d ≡ zeroNumber) → xs ≡ noSums
 unfolding noSums

@@ -10,7 +10,7 @@ use Rattle.lattice.specs.declared.grid.Grid3d.{Grid3d}
 use Rattle.lattice.specs.declared.grid.Position.{Position}
 use Rattle.lattice.specs.Grid.{indexOf, atOf, unknownsOf, Limits, Inside}
 use Rattle.lattice.specs.Lattice.{FullLattice}
-use Rattle.numbers.specs.Lists.{Rises, contains}
+use Rattle.numbers.specs.Lists.{In, Rises, contains}
 use Rattle.lattice.specs.Rows.{rowInto}
 use Rattle.numbers.specs.Terms.{columnsOf}
 use Rattle.lattice.proofs.Equations.{nOf-0, nOf-1, nOf-2}
@@ -23,7 +23,7 @@ use Rattle.operators.specs.Pattern.{Ladder, box, Forward, SpotEdge, spot
 use Rattle.operators.specs.Relation.{Spot, Within}
 use Rattle.operators.specs.Stencil.{shiftTerms, stencilRow}
 use Rattle.numbers.proofs.CollectLaws.{none, from-rises, collected-from}
-use Rattle.numbers.proofs.MemberLaws.{In, Span, contains-in, in-contains}
+use Rattle.numbers.proofs.MemberLaws.{Span, contains-in, in-contains}
 use Rattle.operators.proofs.ForwardPattern.{grid-limits, within, within-inside, forward-in, forward-low, turned-named}
 use Rattle.lattice.proofs.ColumnLaws.{index-one, finest-cells}
 use Rattle.operators.proofs.PatternTheorem.{Touched}

@@ -18,7 +18,7 @@ use Rattle.lattice.specs.Lattice.{FullLattice}
 use Rattle.lattice.specs.Levels.{cellsAt, threeAt}
 use Rattle.numbers.specs.Terms.{Term, columnsOf, numbersOf, Room, LaidRows}
 use Rattle.lattice.proofs.GridLaws.{at-inside, index-at, unknowns-most}
-use Rattle.numbers.specs.Lists.{rows, laid, Laid, contains, startOf, startsOf}
+use Rattle.numbers.specs.Lists.{In, rows, laid, Laid, contains, startOf, startsOf}
 use Rattle.numbers.specs.Transpose.{turnedRow}
 use Rattle.weights.specs.TwoLevels.{gridWith, twoAt, twoOf}
 use Rattle.numbers.proofs.Equations.{startOf-is}
@@ -37,7 +37,7 @@ use Rattle.operators.specs.Pattern.{Ladder, Row}
 use Rattle.operators.specs.Rediscretized.{cellsOn, rediscretizedGrid, rediscretizedLattice}
 use Rattle.operators.specs.Relation.{Spot}
 use Rattle.numbers.proofs.CollectSums.{in-at}
-use Rattle.numbers.proofs.MemberLaws.{In, Span, each-in, rows-in}
+use Rattle.numbers.proofs.MemberLaws.{Span, each-in, rows-in}
 use Rattle.operators.proofs.ForwardPattern.{grid-fine, grid-limits, turned-named}
 use Rattle.operators.proofs.GalerkinColumns.{galerkin-columns}
 use Rattle.operators.proofs.GalerkinLaws.{columned-bounds}

@@ -12,9 +12,9 @@ use Rattle.lattice.specs.Neighbours.{fixedAt, isFixed, isNodeFixed}
 use Rattle.lattice.specs.Curls.{freeNodes}
 use Rattle.lattice.specs.Rows.{freeOf}
 use Rattle.numbers.specs.Terms.{Term, columnsOf}
-use Rattle.numbers.specs.Lists.{each, contains}
+use Rattle.numbers.specs.Lists.{In, each, contains}
 use Rattle.numbers.proofs.EachLaws.{columns-append}
-use Rattle.numbers.proofs.MemberLaws.{In, in-append, in-left, in-right, each-in, in-each, contains-in, in-contains}
+use Rattle.numbers.proofs.MemberLaws.{in-append, in-left, in-right, each-in, in-each, contains-in, in-contains}
 use Rattle.lattice.proofs.ColumnLaws.{fixed-at, free-in, in-free, nodes-in, in-nodes, index-one, free-append}
 
 -- column c is the number of a position for which P holds

@@ -7,13 +7,13 @@ use mathlib.Core.Bool.{Bool}
 use mathlib.Core.List.{List, [], _∷_}
 use lib.ListN.{length}
 use Rattle.numbers.specs.declared.C64.{C64}
-use Rattle.numbers.specs.Lists.{startOf}
+use Rattle.numbers.specs.Lists.{In, startOf}
 use Rattle.numbers.specs.Terms.{columnsOf}
 use Rattle.numbers.specs.Transpose.{turnedReads}
 use Rattle.numbers.proofs.EachLaws.{All, none, more, length-columns}
 use Rattle.numbers.proofs.Equations.{startOf-is}
 use Rattle.numbers.proofs.ListLaws.{rows-most}
-use Rattle.numbers.proofs.MemberLaws.{In, all-in}
+use Rattle.numbers.proofs.MemberLaws.{all-in}
 use Rattle.lattice.specs.declared.grid.Position.{Position}
 use Rattle.lattice.specs.declared.line.Line.{Line}
 use Rattle.lattice.specs.Grid.{nOf, nextAxis, lastAxis, placeOn, atOf, unknownsOf, Limits, Inside}

@@ -13,7 +13,7 @@ use Rattle.numbers.specs.declared.C64.{C64}
 use Rattle.lattice.specs.declared.lattice.Edges.{Edges}
 use Rattle.lattice.specs.Line.{placeOf, coarserEnds, nodesOf, LineOver}
 use Rattle.numbers.proofs.ListLaws.{rises-below}
-use Rattle.numbers.proofs.MemberLaws.{In}
+use Rattle.numbers.specs.Lists.{In}
 use Rattle.weights.specs.Interpolate.{valuePlaces, takenPlaces}
 use Rattle.weights.proofs.PairLaws.{node-end, node-low, node-below}
 use Rattle.lattice.proofs.CurlLaws.{place-across, place-along, rises-most}

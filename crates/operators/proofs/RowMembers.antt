@@ -7,11 +7,11 @@ use mathlib.Core.Bool.{Bool, true, false, cond}
 use mathlib.Core.List.{List, []}
 use Rattle.numbers.specs.declared.C64.{C64}
 use Rattle.numbers.specs.Complex.{oneNumber}
-use Rattle.numbers.specs.Lists.{Rises, each, contains}
+use Rattle.numbers.specs.Lists.{In, Rises, each, contains}
 use Rattle.numbers.specs.Terms.{Term, columnsOf}
 use Rattle.numbers.specs.Collect.{inserted, collected, atFirst, fromZero}
 use Rattle.numbers.proofs.EachLaws.{columns-each}
-use Rattle.numbers.proofs.MemberLaws.{In, contains-in, each-in, in-each}
+use Rattle.numbers.proofs.MemberLaws.{contains-in, each-in, in-each}
 use Rattle.numbers.proofs.CollectLaws.{inserted-rises, collected-rises}
 use Rattle.operators.specs.Galerkin.{forwardTerm, forwardTerms, fineTerms, galerkinTerms, withDiagonal, galerkinRow}
 use Rattle.numbers.proofs.LoopLaws.{columns-one}

@@ -10,7 +10,7 @@ use mathlib.Core.List.{List, [], _∷_}
 use lib.ListN.{length, getD}
 use Rattle.numbers.specs.declared.C64.{C64}
 use Rattle.numbers.specs.Complex.{oneNumber, zeroNumber}
-use Rattle.numbers.specs.Lists.{Rises, each, contains}
+use Rattle.numbers.specs.Lists.{In, Rises, each, contains}
 use Rattle.numbers.specs.Terms.{Term, columnsOf, weightsAt}
 use Rattle.numbers.specs.Transpose.{turnedRow}
 use Rattle.numbers.proofs.Equations.{atFirst-is}
@@ -18,7 +18,7 @@ use Rattle.numbers.proofs.EachLaws.{length-columns}
 use Rattle.numbers.proofs.Tutorial.{first-condition, turned-low, none-named}
 use Rattle.numbers.specs.Collect.{inserted, collected, atFirst, fromZero, summedAt}
 use Rattle.operators.specs.Galerkin.{forwardTerm, forwardTerms, fineTerms, galerkinTerms, withDiagonal, galerkinRow, fineRowsRead, columnsAt, forwardRowsRead, Met, MetAll}
-use Rattle.numbers.proofs.MemberLaws.{In, contains-in, in-contains, in-each}
+use Rattle.numbers.proofs.MemberLaws.{contains-in, in-contains, in-each}
 use Rattle.numbers.proofs.StoredLaws.{each-agree}
 use Rattle.operators.proofs.RowMembers.{Via, row-via, via-row}
 use Rattle.numbers.proofs.CollectLaws.{inserted-rises, collected-rises}

@@ -11,11 +11,10 @@ use lib.ListN.{getD}
 use lib.Ieee as Ieee
 use Rattle.numbers.specs.declared.C64.{C64}
 use Rattle.numbers.specs.Complex.{zeroF}
-use Rattle.numbers.specs.Lists.{contains}
+use Rattle.numbers.specs.Lists.{In, contains}
 use Rattle.numbers.specs.Terms.{columnsOf}
 use Rattle.numbers.specs.Collect.{collected, atFirst}
 use Rattle.numbers.proofs.Equations.{columnsOf-nil, collected-nil, collected-cons, inserted-nil}
-use Rattle.numbers.proofs.MemberLaws.{In}
 use Rattle.numbers.proofs.CollectLaws.{none, collected-from}
 use Rattle.lattice.specs.declared.grid.Position.{Position}
 use Rattle.lattice.specs.Grid.{nOf, unknownsOf, indexOf, atOf, Limits, Inside}

@@ -11,7 +11,7 @@ use Rattle.numbers.specs.Lists.{tabulate}
 use Rattle.operators.specs.Relation.{Rel}
 use Rattle.operators.specs.Pattern.{Role, along, across, Name, same, near, up, down}
 use Rattle.operators.specs.Bits.{single, gathered}
-use Rattle.operators.specs.Numbered.{nameNo}
+use Rattle.operators.specs.Numbered.{nameNo, wordCount}
 
 -- not held fixed
 unfoldable pub liveAt : Bool → Role → ℕ → Bool
@@ -42,5 +42,5 @@ baseWords n bloch q = tabulate (baseWord (getD n (q / 6) 0) (getD bloch (q / 6) 
 pub record Sizes (n : List ℕ) (bloch : List Bool) (t : List ℕ) : Type 0 where
   pub axes : length n ≡ 3
   pub kinds : length bloch ≡ 3
-  pub many : length t ≡ 1152
+  pub many : length t ≡ wordCount
   pub small : (d : ℕ) → d < 3 → getD n d 0 ≤ 64

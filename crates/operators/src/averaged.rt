@@ -238,7 +238,8 @@ fn axis_hats(
     requires { ⌜ LinePair f c ⌝ }
     requires { ⌜ axis < 3 ⌝ }
     requires { ⌜ (length (now nodes) ≡ hatPlaces) × (length (now weights) ≡ hatPlaces) × (length (now counts) ≡ hatCounts) ⌝ }
-    ensures { λ _. ⌜ AxisHats wall (endsOf f) (endsOf c) axis (c .cells) (now (nodes .entry)) (now (weights .entry)) (now (counts .entry)) (now (nodes .exit)) (now (weights .exit)) (now (counts .exit)) ⌝ }
+    ensures { λ _. ⌜ AxisHats wall (endsOf f) (endsOf c) axis (c .cells) (now (nodes .entry)) (now (weights .entry)) (now (counts .entry)) (now (nodes .exit))
+        (now (weights .exit)) (now (counts .exit)) ⌝ }
 {
     let nn = line::nodes_of(f, c);
     let n = c.cells;
@@ -365,7 +366,8 @@ fn weigh_all(
     requires { ⌜ (p .component < 3) × (first ≤ last) × (last ≤ nOf gf (p .component)) ⌝ }
     requires { ⌜ HatsFit (nOf gf (nextAxis (p .component))) i m (now nodes) (now weights) ⌝ }
     requires { ⌜ HatsFit (nOf gf (lastAxis (p .component))) j n (now nodes) (now weights) ⌝ }
-    ensures { λ r. ⌜ r ≡ weighAll gf (readFrom (now (eps .entry)) from) p first (last - first) (hatsIn (now (nodes .entry)) (now (weights .entry)) j n) nothing (hatsIn (now (nodes .entry)) (now (weights .entry)) i m) ⌝ }
+    ensures { λ r. ⌜ r ≡ weighAll gf (readFrom (now (eps .entry)) from) p first (last - first) (hatsIn (now (nodes .entry)) (now (weights .entry)) j n)
+        nothing (hatsIn (now (nodes .entry)) (now (weights .entry)) i m) ⌝ }
 {
     let mut sum = Weighed {
         total: numbers::zero(),
@@ -433,7 +435,8 @@ fn all_averaged(
     requires { ⌜ (Limits gf) × (Limits gc) ⌝ }
     requires { ⌜ AveragesReady gf gc (now nn) (now nodes) (now weights) (now counts) ⌝ }
     requires { ⌜ ChainRoom (unknownsOf gf) (unknownsOf gc) from to (now eps) ⌝ }
-    ensures { λ _. ⌜ now (eps .exit) ≡ laidNumbers (now (eps .entry)) to (tabulate (averagedNo gf gc (now (nn .entry)) (now (nodes .entry)) (now (weights .entry)) (now (counts .entry)) (readFrom (now (eps .entry)) from)) (unknownsOf gc) 0) ⌝ }
+    ensures { λ _. ⌜ now (eps .exit) ≡ laidNumbers (now (eps .entry)) to (tabulate (averagedNo gf gc (now (nn .entry)) (now (nodes .entry)) (now (weights .entry))
+        (now (counts .entry)) (readFrom (now (eps .entry)) from)) (unknownsOf gc) 0) ⌝ }
 {
     let n = grid::unknowns(gc);
     for r in 0..n {
@@ -454,8 +457,10 @@ pub fn averaged_eps(
 ) -> bool
     requires { ⌜ PairedLines (fullLattice l (now st)) fine coarse ⌝ }
     requires { ⌜ ChainRoom (unknownsOf (fineGrid (twoOf (fullLattice l (now st)) fine coarse))) (unknownsOf (coarseGrid (twoOf (fullLattice l (now st)) fine coarse))) from to (now eps) ⌝ }
-    ensures { λ _. ⌜ now (eps .exit) ≡ laidNumbers (now (eps .entry)) to (tabulate (averagedEps (twoOf (fullLattice l (now (st .entry))) fine coarse) (readFrom (now (eps .entry)) from)) (unknownsOf (coarseGrid (twoOf (fullLattice l (now (st .entry))) fine coarse))) 0) ⌝ }
-    ensures { λ r. ⌜ r ≡ allFinite (tabulate (averagedEps (twoOf (fullLattice l (now (st .entry))) fine coarse) (readFrom (now (eps .entry)) from)) (unknownsOf (coarseGrid (twoOf (fullLattice l (now (st .entry))) fine coarse))) 0) ⌝ }
+    ensures { λ _. ⌜ now (eps .exit) ≡ laidNumbers (now (eps .entry)) to (tabulate (averagedEps (twoOf (fullLattice l (now (st .entry))) fine coarse)
+        (readFrom (now (eps .entry)) from)) (unknownsOf (coarseGrid (twoOf (fullLattice l (now (st .entry))) fine coarse))) 0) ⌝ }
+    ensures { λ r. ⌜ r ≡ allFinite (tabulate (averagedEps (twoOf (fullLattice l (now (st .entry))) fine coarse) (readFrom (now (eps .entry)) from))
+        (unknownsOf (coarseGrid (twoOf (fullLattice l (now (st .entry))) fine coarse))) 0) ⌝ }
 {
     let gf = tables::grid_of(l.grid, fine);
     let gc = tables::grid_of(l.grid, coarse);
@@ -498,7 +503,8 @@ fn around_on(
     requires { ⌜ PairedLines (fullLattice l (now st)) fine coarse ⌝ }
     requires { ⌜ now nn ≡ tabulate (nodeNo (twoOf (fullLattice l (now st)) fine coarse)) nodeCount 0 ⌝ }
     requires { ⌜ (axis < 3) × (m < coarseCells (twoOf (fullLattice l (now st)) fine coarse) axis) × (from < 2 ^ 20) ⌝ }
-    ensures { λ r. ⌜ HatsLaid (now (nodes .entry)) (now (weights .entry)) from (hatsAround (twoOf (fullLattice l (now (st .entry))) fine coarse) axis m) (now (nodes .exit)) (now (weights .exit)) r ⌝ }
+    ensures { λ r. ⌜ HatsLaid (now (nodes .entry)) (now (weights .entry)) from (hatsAround (twoOf (fullLattice l (now (st .entry))) fine coarse) axis m)
+        (now (nodes .exit)) (now (weights .exit)) r ⌝ }
 {
     let wall = lattice::lattice::is_wall(lattice::lattice::edges_on(l, st, axis));
     let f = line_on(fine, axis);
@@ -679,7 +685,8 @@ fn all_flagged(
     requires { ⌜ (p .component < 3) × (first ≤ last) × (last ≤ nOf gf (p .component)) ⌝ }
     requires { ⌜ HatsFit (nOf gf (nextAxis (p .component))) i m (now nodes) (now weights) ⌝ }
     requires { ⌜ HatsFit (nOf gf (lastAxis (p .component))) j n (now nodes) (now weights) ⌝ }
-    ensures { λ b. ⌜ b ≡ anyFlag (now (flags .entry)) (each (hatEdges gf p first (last - first) (hatsIn (now (nodes .entry)) (now (weights .entry)) j n)) (hatsIn (now (nodes .entry)) (now (weights .entry)) i m)) ⌝ }
+    ensures { λ b. ⌜ b ≡ anyFlag (now (flags .entry)) (each (hatEdges gf p first (last - first) (hatsIn (now (nodes .entry)) (now (weights .entry)) j n))
+        (hatsIn (now (nodes .entry)) (now (weights .entry)) i m)) ⌝ }
 {
     let end = i + m;
     for q in i..end {

@@ -47,7 +47,8 @@ pub fn compose(
     at: usize,
 )
     requires { ⌜ (fat + n ≤ length (now f)) × (rat + n ≤ length (now r)) × (gat + n ≤ length (now g)) × (n ≤ 64) × (m ≤ 64) × (at + m ≤ length (now out)) ⌝ }
-    ensures { λ _. ⌜ now (out .exit) ≡ laid (now (out .entry)) at (tabulate (composedWord n (wordsAt (now (f .entry)) fat) (wordsAt (now (r .entry)) rat) (wordsAt (now (g .entry)) gat)) m 0) ⌝ }
+    ensures { λ _. ⌜ now (out .exit) ≡ laid (now (out .entry)) at (tabulate (composedWord n (wordsAt (now (f .entry)) fat) (wordsAt (now (r .entry)) rat)
+        (wordsAt (now (g .entry)) gat)) m 0) ⌝ }
 {
     for c in 0..m {
         let u = turned_word(f, fat, r, rat, n, c);

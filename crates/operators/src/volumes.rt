@@ -128,7 +128,8 @@ pub fn inverse_share(
 ) -> bool
     requires { ⌜ Stored (now tstarts) (t .s) (now tcolumns) (now tvalues) (t .k) m n ⌝ }
     requires { ⌜ (c < m) × (k ≤ 2 ^ 32) × (k + n ≤ to) × (2 * (to + m) ≤ length (now scaling)) ⌝ }
-    ensures { λ _. ⌜ now (scaling .exit) ≡ setNumber (now (scaling .entry)) (to + c) (inverseShare (rowsIn t (now (tstarts .entry)) (now (tcolumns .entry)) (now (tvalues .entry))) (readFrom (now (scaling .entry)) k) c) ⌝ }
+    ensures { λ _. ⌜ now (scaling .exit) ≡ setNumber (now (scaling .entry)) (to + c) (inverseShare (rowsIn t (now (tstarts .entry)) (now (tcolumns .entry))
+        (now (tvalues .entry))) (readFrom (now (scaling .entry)) k) c) ⌝ }
     ensures { λ b. ⌜ b ≡ shareFinite (rowsIn t (now (tstarts .entry)) (now (tcolumns .entry)) (now (tvalues .entry))) (readFrom (now (scaling .entry)) k) c ⌝ }
 {
     let v = share_at(t, tstarts, tcolumns, tvalues, m, n, c, scaling, k);
@@ -151,7 +152,8 @@ pub fn inverse_shares(
 ) -> bool
     requires { ⌜ Stored (now tstarts) (t .s) (now tcolumns) (now tvalues) (t .k) m n ⌝ }
     requires { ⌜ (k ≤ 2 ^ 32) × (to ≤ 2 ^ 32) × (k + n ≤ to) × (2 * (to + m) ≤ length (now scaling)) ⌝ }
-    ensures { λ _. ⌜ now (scaling .exit) ≡ laidNumbers (now (scaling .entry)) to (tabulate (inverseShare (rowsIn t (now (tstarts .entry)) (now (tcolumns .entry)) (now (tvalues .entry))) (readFrom (now (scaling .entry)) k)) m 0) ⌝ }
+    ensures { λ _. ⌜ now (scaling .exit) ≡ laidNumbers (now (scaling .entry)) to (tabulate (inverseShare (rowsIn t (now (tstarts .entry)) (now (tcolumns .entry)) (now (tvalues .entry)))
+        (readFrom (now (scaling .entry)) k)) m 0) ⌝ }
     ensures { λ b. ⌜ b ≡ sharesFinite (rowsIn t (now (tstarts .entry)) (now (tcolumns .entry)) (now (tvalues .entry))) (readFrom (now (scaling .entry)) k) m ⌝ }
 {
     let mut finite = true;

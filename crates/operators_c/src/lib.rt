@@ -37,7 +37,8 @@ fn lay(
 ) -> usize
     requires { ⌜ Limits (l .grid) ⌝ }
     requires { ⌜ 2 * unknownsOf (l .grid) ≤ length (now eps) ⌝ }
-    ensures { λ r. ⌜ AllLaid (stencilRow (fullLattice l (now (st .entry))) (numberAt (now (eps .entry)))) (unknownsOf (l .grid)) (now (starts .entry)) (now (columns .entry)) (now (values .entry)) (now (starts .exit)) (now (columns .exit)) (now (values .exit)) r ⌝ }
+    ensures { λ r. ⌜ AllLaid (stencilRow (fullLattice l (now (st .entry))) (numberAt (now (eps .entry)))) (unknownsOf (l .grid)) (now (starts .entry))
+        (now (columns .entry)) (now (values .entry)) (now (starts .exit)) (now (columns .exit)) (now (values .exit)) r ⌝ }
 {
     let n = grid::unknowns(l.grid);
     let mut found = [0usize; 12289];
@@ -62,7 +63,9 @@ pub extern "C" fn operators_rows(
     columns: &mut [usize],
     values: &mut [f64],
 ) -> usize
-    ensures { λ r. ⌜ RowsLeft stencilRow (handed (now (cells .entry)) (now (scalars .entry)) (now (xn .entry)) (now (xh .entry)) (now (yn .entry)) (now (yh .entry)) (now (zn .entry)) (now (zh .entry))) (now (eps .entry)) (now (starts .entry)) (now (columns .entry)) (now (values .entry)) (now (starts .exit)) (now (columns .exit)) (now (values .exit)) r ⌝ }
+    ensures { λ r. ⌜ RowsLeft stencilRow (handed (now (cells .entry)) (now (scalars .entry)) (now (xn .entry)) (now (xh .entry)) (now (yn .entry))
+        (now (yh .entry)) (now (zn .entry)) (now (zh .entry))) (now (eps .entry)) (now (starts .entry)) (now (columns .entry)) (now (values .entry))
+        (now (starts .exit)) (now (columns .exit)) (now (values .exit)) r ⌝ }
 {
     let v = lattice_c::input(cells, scalars);
     if !check::is_sound(check::check(v, xn, xh, yn, yh, zn, zh, eps)) {

@@ -9,12 +9,12 @@ use lib.ListN.{length}
 use lib.Ieee.{Float}
 use Rattle.numbers.specs.declared.C64.{C64}
 use Rattle.numbers.specs.Complex.{zeroNumber, noNumber}
-use Rattle.numbers.specs.Lists.{rows, laidNumbers, allFinite, startOf, readFrom}
+use Rattle.numbers.specs.Lists.{In, rows, laidNumbers, allFinite, startOf, readFrom}
 use Rattle.numbers.specs.Terms.{Term, columnsOf, numbersOf, Stored, Room, LaidRows}
 use Rattle.numbers.specs.Transpose.{turnedRow}
 use Rattle.numbers.proofs.Equations.{readFrom-is}
 use Rattle.numbers.proofs.ListLaws.{laid-numbers-before, laid-numbers-at, rows-agree}
-use Rattle.numbers.proofs.MemberLaws.{In, all-in}
+use Rattle.numbers.proofs.MemberLaws.{all-in}
 use Rattle.numbers.proofs.TabulateLaws.{length-tabulate, tabulate-at-0, tabulate-agree}
 use Rattle.numbers.proofs.Tutorial.{numbers-rows, turned-local, turned-columns}
 use Rattle.lattice.specs.declared.grid.Position.{Position}

@@ -18,7 +18,8 @@ use Rattle.lattice.specs.Line.{placeOf}
 use Rattle.lattice.specs.Neighbours.{fixedAt}
 use Rattle.lattice.proofs.Equations.{cellsAt-is}
 use Rattle.numbers.proofs.ElementLaws.{before-is}
-use Rattle.numbers.proofs.MemberLaws.{In, in-right, each-in, in-each}
+use Rattle.numbers.proofs.MemberLaws.{in-right, each-in, in-each}
+use Rattle.numbers.specs.Lists.{In}
 use Rattle.numbers.proofs.TabulateLaws.{length-tabulate, tabulate-at-0}
 use Rattle.weights.specs.declared.interpolate.Rule.the-variants.{Nearest, Between, Dropped}
 use Rattle.weights.specs.Interpolate.{valueAt, valuePlaces, upTo, meets, outside, ruleBy, ruleOf, lowSide, highSide, sidePlaces, rulePlaces, takenPlaces}

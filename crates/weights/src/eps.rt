@@ -177,8 +177,10 @@ pub fn coarse_eps(
 ) -> bool
     requires { ⌜ Paired (fullLattice l (now st)) fine coarse ⌝ }
     requires { ⌜ ChainRoom (unknownsOf (fineGrid (twoOf (fullLattice l (now st)) fine coarse))) (unknownsOf (coarseGrid (twoOf (fullLattice l (now st)) fine coarse))) from to (now eps) ⌝ }
-    ensures { λ _. ⌜ now (eps .exit) ≡ laidNumbers (now (eps .entry)) to (tabulate (coarseEps (twoOf (fullLattice l (now (st .entry))) fine coarse) (readFrom (now (eps .entry)) from)) (unknownsOf (coarseGrid (twoOf (fullLattice l (now (st .entry))) fine coarse))) 0) ⌝ }
-    ensures { λ r. ⌜ r ≡ allFinite (tabulate (coarseEps (twoOf (fullLattice l (now (st .entry))) fine coarse) (readFrom (now (eps .entry)) from)) (unknownsOf (coarseGrid (twoOf (fullLattice l (now (st .entry))) fine coarse))) 0) ⌝ }
+    ensures { λ _. ⌜ now (eps .exit) ≡ laidNumbers (now (eps .entry)) to (tabulate (coarseEps (twoOf (fullLattice l (now (st .entry))) fine coarse)
+        (readFrom (now (eps .entry)) from)) (unknownsOf (coarseGrid (twoOf (fullLattice l (now (st .entry))) fine coarse))) 0) ⌝ }
+    ensures { λ r. ⌜ r ≡ allFinite (tabulate (coarseEps (twoOf (fullLattice l (now (st .entry))) fine coarse) (readFrom (now (eps .entry)) from))
+        (unknownsOf (coarseGrid (twoOf (fullLattice l (now (st .entry))) fine coarse))) 0) ⌝ }
 {
     let gf = tables::grid_of(l.grid, fine);
     let gc = tables::grid_of(l.grid, coarse);

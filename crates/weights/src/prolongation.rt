@@ -7,7 +7,7 @@ ghost use lib.ListN.{length, set};
 ghost use Rattle.numbers.specs.Places.{setNumber};
 ghost use Rattle.lattice.specs.Grid.{unknownsOf, Limits};
 ghost use Rattle.lattice.specs.Lattice.{fullLattice};
-ghost use Rattle.numbers.specs.Lists.{Laid, laid, laidNumbers, rows as rowsOf, allFinite, startOf, startsOf, contains as containsIn, repeats as repeatsIn, someRepeats, placesIn, readFrom, sumTo};
+ghost use Rattle.numbers.specs.Lists.{Laid, laid, laidNumbers, rows as rowsOf, allFinite, startOf, startsOf, repeats as repeatsIn, someRepeats, readFrom, sumTo};
 ghost use Rattle.weights.specs.TwoLevels.{twoOf, fineGrid, coarseGrid};
 ghost use Rattle.weights.specs.Prolongation.{weightColumns, weightNumbers};
 ghost use Rattle.weights.specs.Product.{rowWeights};
@@ -34,8 +34,10 @@ pub fn columns(
 ) -> usize
     requires { ⌜ Paired (fullLattice l (now st)) fine coarse ⌝ }
     requires { ⌜ (s ≤ 2 ^ 32) × (k ≤ 2 ^ 32) ⌝ }
-    ensures { λ r. ⌜ now (starts .exit) ≡ laid (now (starts .entry)) s (startsOf (weightColumns (twoOf (fullLattice l (now (st .entry))) fine coarse)) (unknownsOf (fineGrid (twoOf (fullLattice l (now (st .entry))) fine coarse)))) ⌝ }
-    ensures { λ r. ⌜ Laid set (now (columns .entry)) k (rowsOf (weightColumns (twoOf (fullLattice l (now (st .entry))) fine coarse)) (unknownsOf (fineGrid (twoOf (fullLattice l (now (st .entry))) fine coarse)))) (now (columns .exit)) (k + r) ⌝ }
+    ensures { λ r. ⌜ now (starts .exit) ≡ laid (now (starts .entry)) s (startsOf (weightColumns (twoOf (fullLattice l (now (st .entry))) fine coarse))
+        (unknownsOf (fineGrid (twoOf (fullLattice l (now (st .entry))) fine coarse)))) ⌝ }
+    ensures { λ r. ⌜ Laid set (now (columns .entry)) k (rowsOf (weightColumns (twoOf (fullLattice l (now (st .entry))) fine coarse)) (unknownsOf
+        (fineGrid (twoOf (fullLattice l (now (st .entry))) fine coarse)))) (now (columns .exit)) (k + r) ⌝ }
 {
     let gf = tables::grid_of(l.grid, fine);
     let gc = tables::grid_of(l.grid, coarse);
@@ -61,9 +63,12 @@ pub fn weights(
 ) -> bool
     requires { ⌜ Paired (fullLattice l (now st)) fine coarse ⌝ }
     requires { ⌜ RoomFor (twoOf (fullLattice l (now st)) fine coarse) feps ceps (now eps) ⌝ }
-    requires { ⌜ (k ≤ 2 ^ 32) × (2 * (k + startOf (weightColumns (twoOf (fullLattice l (now st)) fine coarse)) (unknownsOf (fineGrid (twoOf (fullLattice l (now st)) fine coarse)))) ≤ length (now values)) ⌝ }
-    ensures { λ _. ⌜ now (values .exit) ≡ laidNumbers (now (values .entry)) k (rowsOf (weightNumbers (twoOf (fullLattice l (now (st .entry))) fine coarse) (readFrom (now (eps .entry)) feps) (readFrom (now (eps .entry)) ceps)) (unknownsOf (fineGrid (twoOf (fullLattice l (now (st .entry))) fine coarse)))) ⌝ }
-    ensures { λ r. ⌜ r ≡ allFinite (rowsOf (weightNumbers (twoOf (fullLattice l (now (st .entry))) fine coarse) (readFrom (now (eps .entry)) feps) (readFrom (now (eps .entry)) ceps)) (unknownsOf (fineGrid (twoOf (fullLattice l (now (st .entry))) fine coarse)))) ⌝ }
+    requires { ⌜ (k ≤ 2 ^ 32) × (2 * (k + startOf (weightColumns (twoOf (fullLattice l (now st)) fine coarse)) (unknownsOf (fineGrid (twoOf (fullLattice l (now st)) fine coarse)))) ≤ length
+        (now values)) ⌝ }
+    ensures { λ _. ⌜ now (values .exit) ≡ laidNumbers (now (values .entry)) k (rowsOf (weightNumbers (twoOf (fullLattice l (now (st .entry))) fine coarse)
+        (readFrom (now (eps .entry)) feps) (readFrom (now (eps .entry)) ceps)) (unknownsOf (fineGrid (twoOf (fullLattice l (now (st .entry))) fine coarse)))) ⌝ }
+    ensures { λ r. ⌜ r ≡ allFinite (rowsOf (weightNumbers (twoOf (fullLattice l (now (st .entry))) fine coarse) (readFrom (now (eps .entry)) feps)
+        (readFrom (now (eps .entry)) ceps)) (unknownsOf (fineGrid (twoOf (fullLattice l (now (st .entry))) fine coarse)))) ⌝ }
 {
     let gf = tables::grid_of(l.grid, fine);
     let gc = tables::grid_of(l.grid, coarse);
@@ -146,32 +151,6 @@ pub fn count(l: Lattice, st: &[f64], fine: Three, coarse: Three) -> usize
 
 // ---- refusal 8
 
-// Whether one of the columns from place m to place n - 1 is c.
-fn contains_from(columns: &[usize], m: usize, n: usize, c: usize) -> bool
-    requires { ⌜ n ≤ length (now columns) ⌝ }
-    ensures { λ r. ⌜ r ≡ containsIn c (placesIn (now (columns .entry)) m (n - m)) ⌝ }
-{
-    for q in m..n {
-        if columns[q] == c {
-            return true;
-        }
-    }
-    false
-}
-
-// Whether a column stands twice among the first n.
-fn repeats(columns: &[usize], n: usize) -> bool
-    requires { ⌜ n ≤ length (now columns) ⌝ }
-    ensures { λ r. ⌜ r ≡ repeatsIn (placesIn (now (columns .entry)) 0 n) ⌝ }
-{
-    for m in 0..n {
-        if contains_from(columns, m + 1, n, columns[m]) {
-            return true;
-        }
-    }
-    false
-}
-
 // Whether the row of fine edge r names a coarse edge twice.
 fn row_repeats(gf: Grid3d, gc: Grid3d, ps: &[usize], ns: &[usize], r: usize) -> bool
     requires { ⌜ (Limits gf) × (Limits gc) ⌝ }
@@ -181,7 +160,7 @@ fn row_repeats(gf: Grid3d, gc: Grid3d, ps: &[usize], ns: &[usize], r: usize) -> 
 {
     let mut columns = [0usize; 8];
     let n = rows::columns_at(gc, ps, ns, grid::at(gf, r), 0, &mut columns);
-    repeats(&columns, n)
+    lists::repeats(&columns, n)
 }
 
 fn any_repeats(gf: Grid3d, gc: Grid3d, ps: &[usize], ns: &[usize]) -> bool

@@ -197,7 +197,8 @@ fn numbers_z(
     requires { ⌜ (x .place < s .coarse .nx) × (y .place < s .coarse .ny) ⌝ }
     requires { ⌜ (x .node < s .fine .nx) × (y .node < s .fine .ny) ⌝ }
     requires { ⌜ from + 2 ≤ 2 ^ 40 ⌝ }
-    ensures { λ r. ⌜ Laid setNumber (now (values .entry)) from (numbersInZ (s .fine) (s .coarse) (readFrom (now (eps .entry)) (s .feps)) (readFrom (now (eps .entry)) (s .ceps)) (now (ps .entry)) (now (ds .entry)) (now (ns .entry)) (now (xs .entry)) p x y) (now (values .exit)) r ⌝ }
+    ensures { λ r. ⌜ Laid setNumber (now (values .entry)) from (numbersInZ (s .fine) (s .coarse) (readFrom (now (eps .entry)) (s .feps)) (readFrom
+        (now (eps .entry)) (s .ceps)) (now (ps .entry)) (now (ds .entry)) (now (ns .entry)) (now (xs .entry)) p x y) (now (values .exit)) r ⌝ }
 {
     let q = slot_on(p, 2, p.k);
     let n = ns[q];
@@ -226,7 +227,8 @@ fn numbers_y(
     requires { ⌜ (x .place < s .coarse .nx) × (p .j < 64) ⌝ }
     requires { ⌜ x .node < s .fine .nx ⌝ }
     requires { ⌜ from + 4 ≤ 2 ^ 40 ⌝ }
-    ensures { λ r. ⌜ Laid setNumber (now (values .entry)) from (numbersInY (s .fine) (s .coarse) (readFrom (now (eps .entry)) (s .feps)) (readFrom (now (eps .entry)) (s .ceps)) (now (ps .entry)) (now (ds .entry)) (now (ns .entry)) (now (xs .entry)) p x) (now (values .exit)) r ⌝ }
+    ensures { λ r. ⌜ Laid setNumber (now (values .entry)) from (numbersInY (s .fine) (s .coarse) (readFrom (now (eps .entry)) (s .feps)) (readFrom
+        (now (eps .entry)) (s .ceps)) (now (ps .entry)) (now (ds .entry)) (now (ns .entry)) (now (xs .entry)) p x) (now (values .exit)) r ⌝ }
 {
     let q = slot_on(p, 1, p.j);
     let n = ns[q];
@@ -254,7 +256,8 @@ pub fn numbers_at(
     requires { ⌜ (p .component < 3) × (p .k < 64) ⌝ }
     requires { ⌜ (p .i < 64) × (p .j < 64) ⌝ }
     requires { ⌜ from + 8 ≤ 2 ^ 40 ⌝ }
-    ensures { λ r. ⌜ Laid setNumber (now (values .entry)) from (numbersIn (s .fine) (s .coarse) (readFrom (now (eps .entry)) (s .feps)) (readFrom (now (eps .entry)) (s .ceps)) (now (ps .entry)) (now (ds .entry)) (now (ns .entry)) (now (xs .entry)) p) (now (values .exit)) r ⌝ }
+    ensures { λ r. ⌜ Laid setNumber (now (values .entry)) from (numbersIn (s .fine) (s .coarse) (readFrom (now (eps .entry)) (s .feps)) (readFrom (now (eps .entry))
+        (s .ceps)) (now (ps .entry)) (now (ds .entry)) (now (ns .entry)) (now (xs .entry)) p) (now (values .exit)) r ⌝ }
 {
     let q = slot_on(p, 0, p.i);
     let n = ns[q];
@@ -343,7 +346,9 @@ pub fn all_numbers(
 ) -> usize
     requires { ⌜ SpanOf s (now ps) (now ds) (now ns) (now xs) (now eps) ⌝ }
     requires { ⌜ from ≤ 2 ^ 32 ⌝ }
-    ensures { λ r. ⌜ Laid setNumber (now (values .entry)) from (rowsOf (numbersRow (s .fine) (s .coarse) (readFrom (now (eps .entry)) (s .feps)) (readFrom (now (eps .entry)) (s .ceps)) (now (ps .entry)) (now (ds .entry)) (now (ns .entry)) (now (xs .entry))) (unknownsOf (s .fine))) (now (values .exit)) r ⌝ }
+    ensures { λ r. ⌜ Laid setNumber (now (values .entry)) from (rowsOf (numbersRow (s .fine) (s .coarse) (readFrom (now (eps .entry)) (s .feps))
+        (readFrom (now (eps .entry)) (s .ceps)) (now (ps .entry)) (now (ds .entry)) (now (ns .entry)) (now (xs .entry))) (unknownsOf (s .fine))) (now (values .exit))
+        r ⌝ }
 {
     let n = grid::unknowns(s.fine);
     let mut k = from;

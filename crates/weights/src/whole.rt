@@ -36,7 +36,9 @@ pub fn transfer(
 ) -> bool
     requires { ⌜ Paired (fullLattice l (now st)) fine coarse ⌝ }
     requires { ⌜ WholeRoom (twoOf (fullLattice l (now st)) fine coarse) feps ceps p t (now eps) (now starts) (now columns) (now values) (now tstarts) (now tcolumns) (now tvalues) ⌝ }
-    ensures { λ _. ⌜ WholeLeft (twoOf (fullLattice l (now (st .entry))) fine coarse) feps ceps p t (now (eps .entry)) (now (starts .entry)) (now (columns .entry)) (now (values .entry)) (now (tstarts .entry)) (now (tcolumns .entry)) (now (tvalues .entry)) (now (eps .exit)) (now (starts .exit)) (now (columns .exit)) (now (values .exit)) (now (tstarts .exit)) (now (tcolumns .exit)) (now (tvalues .exit)) ⌝ }
+    ensures { λ _. ⌜ WholeLeft (twoOf (fullLattice l (now (st .entry))) fine coarse) feps ceps p t (now (eps .entry)) (now (starts .entry)) (now (columns .entry))
+        (now (values .entry)) (now (tstarts .entry)) (now (tcolumns .entry)) (now (tvalues .entry)) (now (eps .exit)) (now (starts .exit)) (now (columns .exit))
+        (now (values .exit)) (now (tstarts .exit)) (now (tcolumns .exit)) (now (tvalues .exit)) ⌝ }
     ensures { λ r. ⌜ r ≡ wholeFinite (twoOf (fullLattice l (now (st .entry))) fine coarse) (readFrom (now (eps .entry)) feps) ⌝ }
 {
     let gf = tables::grid_of(l.grid, fine);

@@ -24,7 +24,7 @@ use Rattle.lattice.proofs.CheckLaws.{hands-on, goes-on}
 use Rattle.lattice.proofs.Equations.{threeAt-is, levelsOf-is}
 use Rattle.lattice.proofs.GridLaws.{unknowns-most}
 use Rattle.lattice.proofs.LevelLaws.{lines-at}
-use Rattle.lattice_c.specs.Exports.{Handed, latticeIn, mediumIn, checkIn, levelsIn, answered, nothing}
+use Rattle.lattice_c.specs.Exports.{Handed, latticeIn, fullIn, checkIn, levelsIn, answered, nothing}
 use Rattle.weights.specs.TwoLevels.{TwoLevels, gridWith, twoOf, twoAt}
 use Rattle.weights.specs.Tables.{Paired}
 use Rattle.weights.specs.Whole.{epsOf, fineEdges, coarseEdges, weightsIn, WholeRoom, WholeLeft, wholeFinite}
@@ -259,21 +259,21 @@ module _ (h : Handed) {v : Lattice} (same : v ≡ latticeIn h) (level : ℕ) (ls
   checked : verdictOf a ≡ checkIn h
   checked = rw (← same) e
 
-  levels-are : levelsIn h 0 ≡ andThen (checkIn h) (depthOf (mediumIn h) 0)
+  levels-are : levelsIn h 0 ≡ andThen (checkIn h) (depthOf (fullIn h) 0)
   levels-are = levelsOf-is (latticeIn h) (h .xn) (h .xh) (h .yn) (h .yh) (h .zn) (h .zh) 0
 
   pub export-refused : {out out′ : List ℕ} → r ≡ false → out′ ≡ answered (verdictOf a) out → Leaves (exportLeft h level ls) out out′ ls
   unfolding exportLeft
   export-refused q o =
-      rw (levels-are ∙ hands-on a checked p (depthOf (mediumIn h) 0) q) (refused-left (verdictOf a) (mediumIn h) level (sym p ∙ q) o)
+      rw (levels-are ∙ hands-on a checked p (depthOf (fullIn h) 0) q) (refused-left (verdictOf a) (fullIn h) level (sym p ∙ q) o)
 
   pub export-done : {m : FullLattice} {ls′ : Lent} {out out′ : List ℕ} → r ≡ true → m ≡ latticeOf v (h .xn) (h .xh) (h .yn) (h .yh) (h .zn) (h .zh)
       → Leaves (levelLeft m level ls (depthOf m 0)) out out′ ls′ → Leaves (exportLeft h level ls) out out′ ls′
   unfolding exportLeft
   export-done {m} {ls′} {out} {out′} q f w =
-      let g : m ≡ mediumIn h = f ∙ ap (λ u. latticeOf u (h .xn) (h .xh) (h .yn) (h .yh) (h .zn) (h .zh)) same in
-      let u : Leaves (levelLeft (mediumIn h) level ls (depthOf (mediumIn h) 0)) out out′ ls′ = rw g at w in
-      rw (levels-are ∙ goes-on a checked p (depthOf (mediumIn h) 0) q) u
+      let g : m ≡ fullIn h = f ∙ ap (λ u. latticeOf u (h .xn) (h .xh) (h .yn) (h .yh) (h .zn) (h .zh)) same in
+      let u : Leaves (levelLeft (fullIn h) level ls (depthOf (fullIn h) 0)) out out′ ls′ = rw g at w in
+      rw (levels-are ∙ goes-on a checked p (depthOf (fullIn h) 0) q) u
 
 -- ---- a part's test
 

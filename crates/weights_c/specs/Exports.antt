@@ -15,7 +15,7 @@ use Rattle.lattice.specs.Check.{Verdict, accepted, refused}
 use Rattle.lattice.specs.Lattice.{FullLattice}
 use Rattle.lattice.specs.declared.line.Line.{Line}
 use Rattle.lattice.specs.declared.levels.Three.{Three}
-use Rattle.lattice_c.specs.Exports.{Handed, mediumIn, levelsIn, answered, nothing}
+use Rattle.lattice_c.specs.Exports.{Handed, fullIn, levelsIn, answered, nothing}
 use Rattle.weights.specs.TwoLevels.{TwoLevels, twoAt}
 use Rattle.weights.specs.CoarseEps.{coarseEps}
 use Rattle.weights.specs.Prolongation.{weightColumns, prolongationRow}
@@ -91,7 +91,7 @@ levelLeft l level ls (accepted n) =
     cond (ltb level 11 && ltb (level + 1) n) (transferLeft (twoAt l level) level ls) (record { answer = accepted 0; lists = ls })
 
 unfoldable pub exportLeft : Handed → ℕ → Lent → Left
-exportLeft h level ls = levelLeft (mediumIn h) level ls (levelsIn h 0)
+exportLeft h level ls = levelLeft (fullIn h) level ls (levelsIn h 0)
 
 -- what a call leaves is as said
 pub record Leaves (left : Left) (out : List ℕ) (out′ : List ℕ) (lists′ : Lent) : Type 0 where

@@ -4,6 +4,7 @@
 ghost use mathlib.Core.Path.{_≡_};
 ghost use Prim.Native.Nat.{_+_, _≤_, _<_};
 ghost use lib.ListN.{length};
+ghost use Rattle.numbers.specs.Terms.{mostRows};
 ghost use Rattle.lattice.specs.Grid.{Limits};
 ghost use Rattle.lattice.specs.Lattice.{fullLattice};
 ghost use Rattle.lattice.specs.Levels.{depthOf};
@@ -43,7 +44,7 @@ fn short_list(
     tcolumns: usize,
     tvalues: usize,
 ) -> usize
-    requires { ⌜ (n ≤ 12288) × (m ≤ 12288) ⌝ }
+    requires { ⌜ (n ≤ mostRows) × (m ≤ mostRows) ⌝ }
     ensures { λ r. ⌜ r ≡ shortBy n m w eps starts columns values tstarts tcolumns tvalues ⌝ }
 {
     if eps / 2 < n + m {
@@ -76,7 +77,9 @@ fn lay(
 )
     requires { ⌜ Paired (fullLattice l (now st)) fine coarse ⌝ }
     requires { ⌜ level < 11 ⌝ }
-    ensures { λ _. ⌜ Leaves (transferLeft (twoOf (fullLattice l (now (st .entry))) fine coarse) level (lent (now (eps .entry)) (now (starts .entry)) (now (columns .entry)) (now (values .entry)) (now (tstarts .entry)) (now (tcolumns .entry)) (now (tvalues .entry)))) (now (out .entry)) (now (out .exit)) (lent (now (eps .exit)) (now (starts .exit)) (now (columns .exit)) (now (values .exit)) (now (tstarts .exit)) (now (tcolumns .exit)) (now (tvalues .exit))) ⌝ }
+    ensures { λ _. ⌜ Leaves (transferLeft (twoOf (fullLattice l (now (st .entry))) fine coarse) level (lent (now (eps .entry)) (now (starts .entry))
+        (now (columns .entry)) (now (values .entry)) (now (tstarts .entry)) (now (tcolumns .entry)) (now (tvalues .entry)))) (now (out .entry)) (now (out .exit))
+        (lent (now (eps .exit)) (now (starts .exit)) (now (columns .exit)) (now (values .exit)) (now (tstarts .exit)) (now (tcolumns .exit)) (now (tvalues .exit))) ⌝ }
 {
     let n = grid::unknowns(tables::grid_of(l.grid, fine));
     let m = grid::unknowns(tables::grid_of(l.grid, coarse));
@@ -147,7 +150,10 @@ fn transfer_at(
     tvalues: &mut [f64],
 )
     requires { ⌜ Limits (l .grid) ⌝ }
-    ensures { λ _. ⌜ Leaves (levelLeft (fullLattice l (now (st .entry))) level (lent (now (eps .entry)) (now (starts .entry)) (now (columns .entry)) (now (values .entry)) (now (tstarts .entry)) (now (tcolumns .entry)) (now (tvalues .entry))) (depthOf (fullLattice l (now (st .entry))) 0)) (now (out .entry)) (now (out .exit)) (lent (now (eps .exit)) (now (starts .exit)) (now (columns .exit)) (now (values .exit)) (now (tstarts .exit)) (now (tcolumns .exit)) (now (tvalues .exit))) ⌝ }
+    ensures { λ _. ⌜ Leaves (levelLeft (fullLattice l (now (st .entry))) level (lent (now (eps .entry)) (now (starts .entry)) (now (columns .entry))
+        (now (values .entry)) (now (tstarts .entry)) (now (tcolumns .entry)) (now (tvalues .entry))) (depthOf (fullLattice l (now (st .entry))) 0))
+        (now (out .entry)) (now (out .exit)) (lent (now (eps .exit)) (now (starts .exit)) (now (columns .exit)) (now (values .exit)) (now (tstarts .exit))
+        (now (tcolumns .exit)) (now (tvalues .exit))) ⌝ }
 {
     let found = levels::join_lines(l, st, 0);
     let depth = found.depth;
@@ -201,7 +207,10 @@ pub extern "C" fn weights_transfer(
     tcolumns: &mut [usize],
     tvalues: &mut [f64],
 )
-    ensures { λ _. ⌜ Leaves (exportLeft (handed (now (cells .entry)) (now (scalars .entry)) (now (xn .entry)) (now (xh .entry)) (now (yn .entry)) (now (yh .entry)) (now (zn .entry)) (now (zh .entry))) level (lent (now (eps .entry)) (now (starts .entry)) (now (columns .entry)) (now (values .entry)) (now (tstarts .entry)) (now (tcolumns .entry)) (now (tvalues .entry)))) (now (out .entry)) (now (out .exit)) (lent (now (eps .exit)) (now (starts .exit)) (now (columns .exit)) (now (values .exit)) (now (tstarts .exit)) (now (tcolumns .exit)) (now (tvalues .exit))) ⌝ }
+    ensures { λ _. ⌜ Leaves (exportLeft (handed (now (cells .entry)) (now (scalars .entry)) (now (xn .entry)) (now (xh .entry)) (now (yn .entry)) (now (yh .entry))
+        (now (zn .entry)) (now (zh .entry))) level (lent (now (eps .entry)) (now (starts .entry)) (now (columns .entry)) (now (values .entry)) (now (tstarts .entry))
+        (now (tcolumns .entry)) (now (tvalues .entry)))) (now (out .entry)) (now (out .exit)) (lent (now (eps .exit)) (now (starts .exit)) (now (columns .exit))
+        (now (values .exit)) (now (tstarts .exit)) (now (tcolumns .exit)) (now (tvalues .exit))) ⌝ }
 {
     let v = lattice_c::input(cells, scalars);
     let c = check::check_stretches(v, xn, xh, yn, yh, zn, zh);

@@ -1,6 +1,7 @@
 // Runs transfers of small lattices and prints them: each rule at each end of an axis, lines of 1, 2 and 3 cells, phases other than 1, several levels, and
 // lists too short. Numbers are printed by their bits. `expected.py` works the same out by a second writing of the rules.
 use numbers::C64;
+use numbers::lists;
 
 fn print(text: &[u8]) {
     io::write_all(1, text);
@@ -326,7 +327,29 @@ fn exact() {
     lattice(&cells, &scalars, 0.0, 0.0, &mut all);
 }
 
+// Whether a row of columns names one twice: a line of one coarse cell on a Bloch axis would give `0 0`, and no lattice's levels have such a line.
+fn twice(text: &[u8], columns: [usize; 3], n: usize) {
+    print(text);
+    if n <= 3 {
+        if lists::repeats(&columns, n) {
+            print(b" twice\n");
+        } else {
+            print(b" once\n");
+        }
+    }
+}
+
+fn repeated() {
+    twice(b"none", [0, 0, 0], 0);
+    twice(b"0", [0, 0, 0], 1);
+    twice(b"0 0", [0, 0, 1], 2);
+    twice(b"1 0", [1, 0, 0], 2);
+    twice(b"2 1 0", [2, 1, 0], 3);
+    twice(b"1 0 1", [1, 0, 1], 3);
+}
+
 fn main() {
+    repeated();
     wide(b"1 1 1 Bloch\n", 1, 1, 1, 0, 0.0, 0.0);
     wide(b"3 2 1 walls\n", 3, 2, 1, 1, 0.0, 0.0);
     wide(b"4 1 1 Bloch\n", 4, 1, 1, 0, 0.0, 0.0);

@@ -132,7 +132,7 @@ fn expected_levels(c: &Case) -> ([usize; 2], Vec<[Line; 3]>) {
 
 fn levels(c: &Case, room: [i64; 3], counts: &mut Counts) -> Result<(), String> {
     let (answer, lines) = expected_levels(c);
-    // refusals 1 to 4 leave the lists as they were, 5 leaves zeros
+    // refusals 1 to 4 leave the lists as they were, 5 leaves zero in every place
     let untouched = (1..=4).contains(&answer[0]);
     let (mut cells, mut ends) = if untouched { (vec![], vec![]) } else { (vec![0; 36], vec![0; 36 * 65]) };
     for (q, line) in lines.iter().flatten().enumerate() {
@@ -140,6 +140,9 @@ fn levels(c: &Case, room: [i64; 3], counts: &mut Counts) -> Result<(), String> {
         ends[65 * q..65 * q + line.ends.len()].copy_from_slice(&line.ends);
     }
     let length = [lent(2, room[0]), lent(36, room[1]), lent(36 * 65, room[2])];
+    if answer[0] == 5 {
+        (cells, ends) = (vec![0; length[1]], vec![0; length[2]]);
+    }
     let mut lists = length.map(|n| words_after(n, &[]));
     let [out, counted, ended] = &mut lists;
     ours::levels(c, &mut out[..length[0]], &mut counted[..length[1]], &mut ended[..length[2]]);

@@ -1,10 +1,10 @@
--- `weights::prolongation::repeats` meets its contract. The invariant (`Comparing`): the rest tells the same as the whole.
+-- `numbers::lists::repeats` meets its contract. The invariant (`Comparing`): the rest tells the same as the whole.
 -- Assumes nothing.
 use Prim.Native.Nat.{_-_}
 use Rattle.numbers.proofs.RepeatLaws.{Comparing, comparing-start, comparing-hit, comparing-turn, comparing-end}
 use borrow.Author.Needs.{needs}
-use Rattle.weights.proofs.prolongation.repeats.Statement.{statement}
-use Rattle.weights.proofs.prolongation.repeats.Tie as tie
+use Rattle.numbers.proofs.lists.repeats.Statement.{statement}
+use Rattle.numbers.proofs.lists.repeats.Tie as tie
 
 abbrev Inv-loop : tie.InvT-loop
 Inv-loop columns n m₀ m = Comparing columns n m

@@ -1,10 +1,10 @@
--- `weights::prolongation::contains_from` meets its contract. The invariant (`Seeking`): the rest tells the same as the whole.
+-- `numbers::lists::contains_from` meets its contract. The invariant (`Seeking`): the rest tells the same as the whole.
 -- Assumes nothing.
 use Prim.Native.Nat.{_-_}
 use Rattle.numbers.proofs.RepeatLaws.{Seeking, seeking-start, seeking-hit, seeking-turn, seeking-end}
 use borrow.Author.Needs.{needs}
-use Rattle.weights.proofs.prolongation.contains_from.Statement.{statement}
-use Rattle.weights.proofs.prolongation.contains_from.Tie as tie
+use Rattle.numbers.proofs.lists.contains_from.Statement.{statement}
+use Rattle.numbers.proofs.lists.contains_from.Tie as tie
 
 abbrev Inv-loop : tie.InvT-loop
 Inv-loop columns m n c q₀ q = Seeking columns m n c q
