@@ -35,7 +35,7 @@ or-right false b e = e
 
 -- ---- one check behind another
 
-and-sound : (c d : Verdict) → isSound c ≡ true → andThen c d ≡ d
+pub and-sound : (c d : Verdict) → isSound c ≡ true → andThen c d ≡ d
 and-sound (accepted n) d e = refl
 and-sound (refused number place) d e = absurd (false≢true e)
 
@@ -43,11 +43,11 @@ and-refused : (c d : Verdict) → isSound c ≡ false → andThen c d ≡ c
 and-refused (accepted n) d e = absurd (false≢true (sym e))
 and-refused (refused number place) d e = refl
 
-and-first : (c d : Verdict) → isSound (andThen c d) ≡ true → isSound c ≡ true
+pub and-first : (c d : Verdict) → isSound (andThen c d) ≡ true → isSound c ≡ true
 and-first (accepted n) d e = refl
 and-first (refused number place) d e = e
 
-and-second : (c d : Verdict) → isSound (andThen c d) ≡ true → isSound d ≡ true
+pub and-second : (c d : Verdict) → isSound (andThen c d) ≡ true → isSound d ≡ true
 and-second c d e = rw (and-sound c d (and-first c d e)) at e
 
 and-assoc : (c d e : Verdict) → andThen (andThen c d) e ≡ andThen c (andThen d e)

@@ -14,7 +14,7 @@ use Rattle.numbers.specs.Complex.{zeroNumber, noNumber}
 use Rattle.numbers.specs.Places.{places, numberAt, setNumber, foundAt}
 use Rattle.numbers.proofs.Laws.{length-setNumber, number-same, number-other, found-held}
 use Rattle.lattice.specs.Grid.{axis3, nOf}
-use Rattle.lattice.specs.Lattice.{fullLattice, nodesAt, halvesAt, halfNo, stretchAt, latticeOf, Lengths, LaidStretches}
+use Rattle.lattice.specs.Lattice.{FullLattice, fullLattice, nodesAt, halvesAt, halfNo, stretchAt, latticeOf, Lengths, LaidStretches}
 use Rattle.lattice.specs.declared.lattice.Lattice.{Lattice}
 use Rattle.lattice.specs.declared.grid.Grid3d.{Grid3d}
 use Rattle.lattice.proofs.GridLaws.{axis-first, axis-second, axis-third}
@@ -124,3 +124,8 @@ module _ (v : Lattice) (xn xh yn yh zn zh : List Float) where
 
       high : (k : ℕ) → k < 192 → halfNo zs k ≡ stretchAt (v .grid) xh yh zh k
       high k h = sym (found-held zs (192 + k) (omega (arith, long))) ∙ b .inside k h (omega (arith, a .long, e, places-is ys))
+
+-- the cells are the record's
+pub lattice-grid : (v : Lattice) (xn xh yn yh zn zh : List Float) → latticeOf v xn xh yn yh zn zh .grid ≡ v .grid
+unfolding latticeOf
+lattice-grid v xn xh yn yh zn zh = refl

@@ -298,3 +298,22 @@ levels-some v xn xh yn yh zn zh coarsest = go (checkStretches v xn xh yn yh zn z
     go : (c : Verdict) → andThen c (depthFrom (latticeOf v xn xh yn yh zn zh) coarsest 12 0) ≡ accepted 0 → ⊥
     go (accepted n) e = depth-some (latticeOf v xn xh yn yh zn zh) coarsest 12 0 e
     go (refused number place) e = refused-not e
+
+-- ---- there are at most 12 levels
+
+depth-from : (l : FullLattice) (coarsest n L k : ℕ) → depthFrom l coarsest n L ≡ accepted k → k ≤ L + n
+unfolding depthFrom
+depth-from l coarsest zero L k e = absurd (let z : _≡_ {A = ℕ} 0 1 = cc in omega arith)
+depth-from l coarsest (suc n) L k e = go (stops l coarsest L) e (depth-from l coarsest n (suc L) k)
+  where
+    go : (b : Bool) → cond b (accepted (suc L)) (depthFrom l coarsest n (suc L)) ≡ accepted k → (depthFrom l coarsest n (suc L) ≡ accepted k → k ≤ suc L + n) → k ≤ L + suc n
+    go true e r = let z : suc L ≡ k = cc in omega arith
+    go false e r = omega (arith, r e)
+
+pub depth-most : (l : FullLattice) (coarsest k : ℕ) → depthOf l coarsest ≡ accepted k → k ≤ 12
+unfolding depthOf
+depth-most l coarsest k e = omega (arith, depth-from l coarsest 12 0 k e)
+
+pub depth-none : (l : FullLattice) (coarsest : ℕ) → depthOf l coarsest ≡ accepted 0 → ⊥
+unfolding depthOf
+depth-none l coarsest e = depth-some l coarsest 12 0 e

@@ -151,3 +151,9 @@ pub all-each : {A B : Type 0} {P : A → Type 0} {Q : B → Type 0} (f : A → L
 unfolding each
 all-each f h none = none
 all-each f h (more {x = x} p u) = all-append (h x p) (all-each f h u)
+
+-- as many for each element
+pub each-long : {A B C : Type 0} (f : A → List B) (g : A → List C) → ((x : A) → length (f x) ≡ length (g x)) → (xs : List A) → length (each f xs) ≡ length (each g xs)
+unfolding each
+each-long f g h [] = refl
+each-long f g h (x ∷ xs) = omega (arith, length-append (f x) (each f xs), length-append (g x) (each g xs), h x, each-long f g h xs)

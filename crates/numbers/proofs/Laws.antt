@@ -64,6 +64,10 @@ finite-is (inf s) h = absurd (no h)
     no e = let z : _≡_ {A = ℕ} 0 1 = cc in omega arith
 finite-is (fin s m e) h = (s, m, e, refl)
 
+pub finite-both : (x : C64) → finite x ≡ (finiteDouble (x .re) && finiteDouble (x .im))
+unfolding finite
+finite-both x = refl
+
 pub finite-parts : (x : C64) → finite x ≡ true → (finiteDouble (x .re) ≡ true) × (finiteDouble (x .im) ≡ true)
 unfolding finite
 finite-parts x h = (and-left (finiteDouble (x .re)) (finiteDouble (x .im)) h, and-right (finiteDouble (x .re)) (finiteDouble (x .im)) h)

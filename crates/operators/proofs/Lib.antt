@@ -43,3 +43,4 @@ pub mod SeamLaws
 pub mod Conditions
 pub mod RediscretizedLevel
 pub mod GalerkinLevel
+pub mod Equations

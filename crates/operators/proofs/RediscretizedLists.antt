@@ -75,6 +75,15 @@ lattice-agree l s t h =
     halves : (k : ℕ) → k < 192 → halfStretch l s k ≡ halfStretch l t k
     halves k b = unfold halfStretch in rw (h (k / 64) (omega arith))
 
+-- the lattice of level L + 1, from its lines
+pub lattice-own : (l : FullLattice) → Limits (l .grid) → (L : ℕ) {s : Three} {m : FullLattice} → s ≡ threeAt l (suc L)
+    → m ≡ rediscretizedLattice l (linesIn s) → m ≡ latticeAt l (suc L)
+unfolding latticeAt lineOn
+lattice-own l limits L p e =
+    e
+    ∙ ap (λ (s : Three). rediscretizedLattice l (linesIn s)) p
+    ∙ lattice-agree l (linesIn (threeAt l (suc L))) (lineOn l (suc L)) (λ a b. three-lines l limits (suc L) a b)
+
 pub lattice-edges : (l : FullLattice) (L : ℕ) → unknownsOf (latticeAt l (suc L) .grid) ≡ edgesOn l (suc L)
 unfolding latticeAt rediscretizedLattice rediscretizedGrid lineOn cellsOn gridAt
 lattice-edges l L =
@@ -120,11 +129,7 @@ module _ (l : FullLattice) (L : ℕ) (limits : Limits (l .grid)) {fine coarse : 
   coarse-edges = ap (λ (t : TwoLevels). unknownsOf (coarseGrid t)) two-is ∙ ap unknownsOf (sym (grid-coarse l L))
 
   lattice-is : {m : FullLattice} → m ≡ rediscretizedLattice l (linesIn coarse) → m ≡ latticeAt l (suc L)
-  unfolding latticeAt lineOn
-  lattice-is e =
-      e
-      ∙ ap (λ (s : Three). rediscretizedLattice l (linesIn s)) (lines .1)
-      ∙ lattice-agree l (linesIn (threeAt l (suc L))) (lineOn l (suc L)) (λ a b. three-lines l limits (suc L) a b)
+  lattice-is e = lattice-own l limits L (lines .1) e
 
   module _ {from to : ℕ} {xs : List Float} (room : ChainRoom (edgesOn l L) (edgesOn l (suc L)) from to xs) where
     pub room-nested : ChainRoom (unknownsOf (fineGrid (twoOf l fine coarse))) (unknownsOf (coarseGrid (twoOf l fine coarse))) from to xs

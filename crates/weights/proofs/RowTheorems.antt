@@ -15,10 +15,10 @@ use Rattle.numbers.specs.Terms.{Term}
 use Rattle.lattice.proofs.GridLaws.{index-below}
 use Rattle.weights.specs.TwoLevels.{TwoLevels, gridWith, fineGrid, coarseGrid, fineLattice, coarseLattice, onGrid}
 use Rattle.weights.specs.Interpolate.{whole}
-use Rattle.weights.specs.Prolongation.{axisTerms, isAlong, edgeAt, readEdge, columnAt, nestZ, nestY, nest, weightColumns, weightAt, termAt, termsZ, termsY, termsX, prolongationRow, readAt, weightReads}
+use Rattle.weights.specs.Prolongation.{axisPlaces, axisTerms, isAlong, edgeAt, readEdge, columnAt, nestZ, nestY, nest, weightColumns, weightAt, termAt, termsZ, termsY, termsX, prolongationRow, readAt, weightReads}
 use Rattle.weights.specs.Product.{columnIn, productZ, productY, productColumns}
 use Rattle.weights.specs.CoarseEps.{epsReads, inverted, harmonic, coarseEps}
-use Rattle.numbers.proofs.EachLaws.{All, none, more, all-each, all-at}
+use Rattle.numbers.proofs.EachLaws.{All, none, more, all-each, all-at, each-long}
 use Rattle.numbers.proofs.LoopLaws.{summed-local, each-local}
 use Rattle.lattice.proofs.NestLaws.{fixed-index}
 use Rattle.weights.proofs.ProductLaws.{FreePlace, free-all, fixed-coarse, columns-product, axis-columns}
@@ -121,3 +121,22 @@ harmonic-local f f′ cs h = ap (realOver (whole (length cs))) (inverted-local f
 pub eps-local : (t : TwoLevels) (f f′ : ℕ → C64) (r : ℕ) → ((c : ℕ) → In c (epsReads t r) → f c ≡ f′ c) → coarseEps t f r ≡ coarseEps t f′ r
 unfolding coarseEps
 eps-local t f f′ r h = harmonic-local f f′ (epsReads t r) h
+
+-- a row reads as many permittivities as it has weights
+pub reads-long : (t : TwoLevels) (r : ℕ) → length (weightReads t r) ≡ length (weightColumns t r)
+unfolding weightReads weightColumns
+reads-long t r = go (fixedAt (fineLattice t) (atOf (fineGrid t) r)) (atOf (fineGrid t) r)
+  where
+    one : (b : Bool) (x y : ℕ) → _≡_ {A = ℕ} (length (cond b [] (x ∷ []))) (length (cond b [] (y ∷ [])))
+    one true x y = refl
+    one false x y = refl
+
+    go : (b : Bool) (p : Position) → length (cond b [] (nest t p (readAt t p))) ≡ length (cond b [] (nest t p (columnAt t p)))
+    go true p = refl
+    go false p =
+        unfold nest nestY nestZ readAt columnAt in
+        each-long (nestY t p (readAt t p)) (nestY t p (columnAt t p))
+        (λ i. each-long (nestZ t p (readAt t p) i) (nestZ t p (columnAt t p) i)
+        (λ j. each-long (readAt t p i j) (columnAt t p i j) (λ k. one (fixedAt (coarseLattice t) (edgeAt p i j k)) _ _) (axisPlaces t 2 (isAlong p 2) (p .k)))
+        (axisPlaces t 1 (isAlong p 1) (p .j)))
+        (axisPlaces t 0 (isAlong p 0) (p .i))
