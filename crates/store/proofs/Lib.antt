@@ -50,3 +50,4 @@ pub mod FillLaws
 pub mod SettleLaws
 pub mod HandedLaws
 pub mod StoredConditions
+pub mod NeededLaws

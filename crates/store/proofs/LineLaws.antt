@@ -26,20 +26,24 @@ use Rattle.operators.proofs.LevelListLaws.{level-grid, level-limits, level-edge
 use Rattle.store.specs.Phases.{blankLine, HasLines, threeIn}
 use Rattle.lattice.proofs.LevelLaws.{depth-most}
 
+-- the lines of so many levels
+pub lines-of : (l : FullLattice) (m : ℕ) {lines : List Line} → lines ≡ linesTo l (suc m) → m ≤ 11 → HasLines l m lines
+lines-of l m is deep =
+    record {
+      long = ap (λ (vs : List Line). length vs) (is ∙ linesTo-is l (suc m)) ∙ length-tabulate (lineNo l (suc m)) 36 0;
+      line-is = λ q h.
+          ap (λ (vs : List Line). getD vs q blankLine) is
+          ∙ lines-at l (suc m) (q / 3) (q % 3) q blankLine (omega arith) (omega arith) (omega arith) (omega arith);
+    }
+
 -- the lines that the level loop found are those of its levels
+pub lines-to : (l : FullLattice) (coarsest m : ℕ) {r : Lines} → Joined l coarsest r → depthOf l coarsest ≡ accepted (suc m) → r .lines ≡ linesTo l (suc m)
+lines-to l coarsest m joined e = joined .lines-are ∙ ap (linesTo l) (ap countOf e)
+
 pub has-lines : (l : FullLattice) (coarsest m : ℕ) {r : Lines} → Joined l coarsest r → depthOf l coarsest ≡ accepted (suc m) → (HasLines l m (r .lines)) × (m ≤ 11)
-has-lines l coarsest m {r} joined e =
-    let n : countOf (depthOf l coarsest) ≡ suc m = ap countOf e in
-    let deep = depth-most l coarsest (suc m) e in
-    let is : r .lines ≡ linesTo l (suc m) = joined .lines-are ∙ ap (linesTo l) n in (
-      record {
-        long = ap (λ (vs : List Line). length vs) (is ∙ linesTo-is l (suc m)) ∙ length-tabulate (lineNo l (suc m)) 36 0;
-        line-is = λ q h.
-            ap (λ (vs : List Line). getD vs q blankLine) is
-            ∙ lines-at l (suc m) (q / 3) (q % 3) q blankLine (omega arith) (omega arith) (omega arith) (omega arith);
-      },
-      omega arith,
-    )
+has-lines l coarsest m joined e =
+    let deep : m ≤ 11 = omega (arith, depth-most l coarsest (suc m) e) in
+    (lines-of l m (lines-to l coarsest m joined e) deep, deep)
 
 -- ---- the lines of one level
 

@@ -5,6 +5,7 @@ pub mod fill;
 pub mod galerkin_levels;
 pub mod handed;
 pub mod lines;
+pub mod needed;
 pub mod needs;
 pub mod rediscretized_levels;
 pub mod relations;
