@@ -5,29 +5,17 @@
 top=$(cd "$(dirname "${BASH_SOURCE[0]}")/.." && pwd)
 work=$top/target/differential
 driver=$work/target/release/differential
-libs=${OUR_LIBS:-$work/ours/target/staticlib}
+libs=${OUR_LIBS:-$top/target/staticlib}
 
 say() { echo "differential: $*" >&2; }
 die() { say "$*"; exit 2; }
 
-# The static libraries, made in a repository of its own, which has the crates and the adapter. What is proved is shared with the repository above.
+# The static libraries, made of the crates above.
 libraries() {
-    local ours=$work/ours adapter=$top/differential/adapter own=$work/ours/crates/operators_setup name
+    local name
     command -v rt >/dev/null || die "no rt"
-    rm -rf "$ours/crates"
-    mkdir -p "$own/src" "$own/proofs" "$ours/target" "$top/target/rlib" "$top/target/stamp"
-    for name in "$top"/crates/*; do ln -s "$name" "$ours/crates/"; done
-    for name in rlib stamp; do ln -sfn "$top/target/$name" "$ours/target/$name"; done
-    { cat "$top/crates.txt" && echo "operators_setup: numbers lattice weights operators lattice_c"; } >"$ours/crates.txt"
-    cp "$adapter/lib.rt.txt" "$own/src/lib.rt"
-    cp "$adapter/never.antt.txt" "$own/proofs/Never.antt"
-    echo "pub mod Never" >"$own/proofs/Lib.antt"
-    for name in $(sed -n 's/^\(pub extern "C" \)\?fn \([a-z0-9_]*\).*/\2/p' "$own/src/lib.rt"); do
-        mkdir "$own/proofs/$name"
-        sed "s/FUNCTION/$name/g; s/THEOREM/${name//_/-}/g" "$adapter/proof.antt.txt" >"$own/proofs/$name/Proof.antt"
-    done
-    for name in lattice_c weights_c operators_setup; do
-        (cd "$ours" && rt staticlib $name) >"$work/staticlib.log" 2>&1 || { cat "$work/staticlib.log"; die "rt staticlib $name failed"; }
+    for name in lattice_c weights_c store_c; do
+        (cd "$top" && rt staticlib $name) >"$work/staticlib.log" 2>&1 || { cat "$work/staticlib.log"; die "rt staticlib $name failed"; }
     done
 }
 
@@ -74,7 +62,7 @@ num-complex = "0.4"
 PACKAGE
 
     [ -n "${OUR_LIBS:-}" ] || libraries
-    for tool in lattice_c weights_c; do
+    for tool in lattice_c weights_c store_c; do
         [ -f "$libs/lib$tool.a" ] || die "no lib$tool.a in $libs"
     done
     rm -f "$work/Cargo.lock"

@@ -5,8 +5,8 @@
 
 The prover makes no library of code with a fault in it, so here the .rt files, contracts left out, are put together
 as one Rust file and compiled by rustc into libraries in OUT. Only to see that the run can fail, and to compare a layer
-before its proofs are there; exports.rs exports what no crate does yet. Without FAULT the code is left as it is; each of
-FAULTS must hit exactly once. `--list` names them, and `--check CRATES` tries each of their patterns and writes nothing.
+before its proofs are there. Without FAULT the code is left as it is; each of FAULTS must hit exactly once. `--list`
+names them, and `--check CRATES` tries each of their patterns and writes nothing.
 """
 
 import os
@@ -96,6 +96,14 @@ let c = cs[q];
     "zero-share": ("operators/src/volumes.rt", "return numbers::one();", "return numbers::zero();"),
     "share-without-last": ("operators/src/volumes.rt", "for q in first..last {", "for q in first..last - (last - first) / 2 {"),
     "inverse-finite": ("operators/src/volumes.rt", "numbers::is_finite(v) && numbers::is_finite(w)\n", "numbers::is_finite(v)\n"),
+    "operator-part-late": ("store/src/galerkin_levels.rt", "k: q.k + w,", "k: q.k + w + 1,"),
+    "averaged-from-first": ("store/src/rediscretized_levels.rt", "        from = to;\n", ""),
+    "turned-part-kept": ("store/src/transfers.rt", "ts: o.ts + m + 1,", "ts: o.ts,"),
+    "last-bad-level": ("store/src/lines.rt", "if bad == 0 {", "if bad == 0 || !ok {"),
+    "odd-double-counted": ("store/src/needs.rt", "n.eps <= h.eps / 2;", "n.eps <= (h.eps + 1) / 2;"),
+    "one-list-kept": ("store/src/setup.rt", "    zeros::zero_three(ostarts, ocolumns, ovalues);\n", ""),
+    "finest-stretches": ("store/src/scaling.rt", "volumes::volumes(own, &stretches, scaling, k)", "volumes::volumes(own, st, scaling, k)"),
+    "one-choice": ("store_c/src/lib.rt", "if n == 0 {", "if n != 1 {"),
 }
 
 
@@ -164,7 +172,8 @@ def main():
         stop(f"no fault {fault}")
     parts = ["#![allow(unused, improper_ctypes_definitions)]"]
     # the crates of modules, then those of one file; each sees those before it
-    for crate, above in (("numbers", []), ("lattice", ["numbers"]), ("weights", ["numbers", "lattice"]), ("operators", ["numbers", "lattice", "weights"])):
+    for crate, above in (("numbers", []), ("lattice", ["numbers"]), ("weights", ["numbers", "lattice"]), ("operators", ["numbers", "lattice", "weights"]),
+                         ("store", ["numbers", "lattice", "weights", "operators"])):
         parts.append(f"pub mod {crate} {{")
         own = plain(crates, f"{crate}/src/lib.rt", fault)
         parts.append(inside(re.sub(r"^pub mod \w+;$", "", own, flags=re.M), crate, above))
@@ -173,12 +182,10 @@ def main():
                 text = plain(crates, f"{crate}/src/{name}", fault)
                 parts.append(f"pub mod {name[:-3]} {{\n{inside(text, crate, above)}\n}}")
         parts.append("}")
-    for crate, above in (("lattice_c", ["numbers", "lattice"]), ("weights_c", ["numbers", "lattice", "weights", "lattice_c"])):
+    for crate, above in (("lattice_c", ["numbers", "lattice"]), ("weights_c", ["numbers", "lattice", "weights", "lattice_c"]),
+                         ("store_c", ["lattice_c", "store"])):
         text = plain(crates, f"{crate}/src/lib.rt", fault)
         parts.append(f"pub mod {crate} {{\n{inside(text, crate, above)}\n}}")
-    # what no crate exports yet
-    with open(os.path.join(os.path.dirname(os.path.abspath(__file__)), "exports.rs"), encoding="utf-8") as file:
-        parts.append("pub mod exports {\n" + file.read() + "\n}")
     os.makedirs(out, exist_ok=True)
     with open(os.path.join(out, "unproved.rs"), "w", encoding="utf-8") as file:
         file.write("\n".join(parts))
@@ -189,7 +196,7 @@ def main():
     if made.returncode != 0:
         stop("the files don't compile as Rust:\n" + made.stderr)
     # all of it in one of the libraries that the driver links, the others empty
-    for library, members in (("liblattice_c.a", ["unproved.o"]), ("libweights_c.a", []), ("liboperators_setup.a", [])):
+    for library, members in (("liblattice_c.a", ["unproved.o"]), ("libweights_c.a", []), ("libstore_c.a", [])):
         if os.path.exists(os.path.join(out, library)):
             os.remove(os.path.join(out, library))
         subprocess.run(["ar", "crs", library] + members, cwd=out, check=True)

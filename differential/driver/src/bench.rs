@@ -3,7 +3,7 @@
 use crate::case::Case;
 use crate::{generate, ours, random::Random, transfers};
 use num_complex::Complex64 as c64;
-use source::{Coarse, Lattice, Line, Multigrid, Options, Stretched};
+use source::{Coarse, Lattice, Line, Multigrid, Stretched};
 use std::hint::black_box;
 
 // What one side leaves, in the lists that our side is lent.
@@ -117,7 +117,7 @@ fn rust_transfer(c: &Case) -> usize {
     bench_transfer_rust(&lattice, &maps, (&fine, &coarse), &c.numbers(6))
 }
 
-// A whole setup, from the input on: lines, transfers, operators; of choice 2 the transfers alone.
+// A whole setup, from the input on: lines, transfers, operators.
 #[unsafe(no_mangle)]
 #[inline(never)]
 pub fn bench_setup_ours(c: &Case, choice: usize, s: &mut ours::Store) -> usize {
@@ -128,20 +128,9 @@ pub fn bench_setup_ours(c: &Case, choice: usize, s: &mut ours::Store) -> usize {
 #[unsafe(no_mangle)]
 #[inline(never)]
 pub fn bench_setup_rust(c: &Case, choice: usize) -> usize {
-    let (lattice, eps) = (c.lattice(), c.numbers(6));
-    if choice < 2 {
-        let coarse = if choice == 0 { Coarse::Galerkin } else { Coarse::Rediscretized };
-        let options = Multigrid { shift: c.scalars[4], coarsest: c.coarsest, coarse };
-        return black_box(source::setup(&lattice, &eps, &options)).map_or(0, |levels| levels.len());
-    }
-    let maps = Stretched::new(&lattice);
-    let lines = source::level_lines(&lattice, &Options { coarsest: c.coarsest }).unwrap_or_default();
-    let mut made = Vec::new();
-    for two in lines.windows(2) {
-        let last = made.last().map_or(&eps, |t: &transfers::Theirs| &t.eps);
-        made.push(transfers::theirs(&lattice, &maps, (&two[0], &two[1]), last));
-    }
-    black_box(made).len() + 1
+    let coarse = if choice == 0 { Coarse::Galerkin } else { Coarse::Rediscretized };
+    let options = Multigrid { shift: c.scalars[4], coarsest: c.coarsest, coarse };
+    black_box(source::setup(&c.lattice(), &c.numbers(6), &options)).map_or(0, |levels| levels.len())
 }
 
 // A Bloch lattice with unit stretches and any permittivities.
@@ -157,33 +146,24 @@ fn bloch(cells: [usize; 3]) -> Case {
     c
 }
 
-// A setup on one side: its cells as 16x16x16, its choice as 0, 1 or 2.
+// A setup on one side: its cells as 16x16x16, its choice as 0 or 1.
 pub fn setup(name: &str, cells: &str, choice: &str) -> Result<(), String> {
     let cells: Vec<usize> = cells.split('x').filter_map(|n| n.parse().ok()).collect();
     let (Ok(cells), Ok(choice)) = (<[usize; 3]>::try_from(cells), choice.parse()) else {
-        return Err("cells as 16x16x16, and 0, 1 or 2".to_string());
+        return Err("cells as 16x16x16, and 0 or 1".to_string());
     };
-    if !ours::OPERATORS {
-        return Err("no library of the operators layer".to_string());
-    }
     let mut c = bloch(cells);
     c.coarsest = 1;
     c.scalars[4] = 0.5;
     let n = 120 * 3 * c.total();
-    let mut s = ours::Store::none();
-    s.words = [0; 8].map(|_: i32| vec![0; n + 8]);
-    // the pattern's rows apart from the operators' are left out
-    s.words[6].truncate(8);
-    s.words[7].truncate(8);
-    s.numbers = [0; 5].map(|_: i32| vec![0.0; 2 * n + 8]);
-    (s.counts, s.finite) = (vec![0; 20], vec![0; 68]);
+    let mut s = ours::Store { out: vec![0; 10], words: [0; 7].map(|_: i32| vec![0; n + 8]), doubles: [0; 5].map(|_: i32| vec![0.0; 2 * n + 8]) };
     let levels = match name {
         "setup_ours" => bench_setup_ours(black_box(&c), choice, black_box(&mut s)),
         "setup_rust" => bench_setup_rust(black_box(&c), choice),
         _ => return Err(format!("no benchmark {name}")),
     };
     println!("{name}: {levels} levels");
-    black_box(&s.numbers);
+    black_box(&s.doubles);
     Ok(())
 }
 

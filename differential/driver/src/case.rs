@@ -14,9 +14,9 @@ pub struct Case {
     pub coarsest: usize,
     // how much longer than needed each list is that is lent for results, in doubles or words
     pub room: [i64; 8],
-    // whether the rows are compared too, and the operators
+    // whether the rows are compared too, and the setups
     pub rows: bool,
-    pub operators: bool,
+    pub setups: bool,
 }
 
 impl Case {
@@ -31,7 +31,7 @@ impl Case {
             coarsest: 0,
             room: [0; 8],
             rows: true,
-            operators: true,
+            setups: true,
         }
     }
 

@@ -1,7 +1,7 @@
 // One input on both sides, bit for bit. Two NaNs count as equal.
 
 use crate::case::Case;
-use crate::{norm, operators, ours, table, transfers};
+use crate::{norm, ours, store, table, transfers};
 use num_complex::Complex64 as c64;
 use source::{Line, Options, Stretched};
 
@@ -22,7 +22,7 @@ pub struct Counts {
     pub refusals: [u64; 6],
     pub norm: norm::Departures,
     pub transfers: transfers::Counts,
-    pub operators: operators::Counts,
+    pub store: store::Counts,
 }
 
 // What lies in a lent list before the call, and behind its end.
@@ -91,8 +91,8 @@ pub fn compare(c: &Case, counts: &mut Counts) -> Result<(), String> {
         counts.other_lengths += 1;
         counts.transfers.short += others.transfers.short;
     }
-    if c.operators {
-        operators::operators(c, &mut counts.operators)?;
+    if c.setups {
+        store::setups(c, &mut counts.store)?;
     }
     Ok(())
 }

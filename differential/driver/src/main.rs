@@ -10,10 +10,10 @@ mod compare;
 mod generate;
 mod norm;
 mod numbers;
-mod operators;
 mod ours;
 mod random;
 mod shrink;
+mod store;
 mod table;
 mod transfers;
 
@@ -59,7 +59,7 @@ impl Run {
                     c.set_kind(axis, bloch[axis]);
                 }
                 self.one("small lattices", &c)?;
-                (c.rows, c.operators) = (false, false);
+                c.rows = false;
                 for coarsest in 1..3 * c.total() + 2 {
                     c.coarsest = coarsest;
                     self.again("small lattices", &c)?;
@@ -85,9 +85,8 @@ impl Run {
             };
             let bloch = generate::kinds(&mut self.random);
             let mut c = generate::filled(&mut self.random, cells, bloch);
-            // the rows of every tenth large lattice, the operators of every third
+            // the rows of every tenth large lattice
             c.rows = k % 500 > 1 || k / 500 % 10 == 0;
-            c.operators = k % 500 > 1 || k / 500 % 3 == 0;
             self.one("random lattices", &c)?;
         }
         Ok(())
@@ -138,7 +137,7 @@ impl Run {
         }
         for cells in [[64, 64, 1], [64, 64, 2], [16, 16, 16], [17, 16, 16], [64, 1, 64], [63, 65, 1], [65, 63, 1]] {
             let mut c = Case::plain(cells);
-            (c.rows, c.operators) = (false, false);
+            c.rows = false;
             self.one("refusals", &c)?;
         }
         for _ in 0..lattices {
@@ -172,7 +171,6 @@ impl Run {
                     return Err(format!("{n} cells that double in length: {answer:?} levels"));
                 }
                 self.one("deep lines", &c)?;
-                c.operators = false;
                 for coarsest in (1..3 * n + 2).step_by(if n > 16 { 7 } else { 1 }) {
                     c.coarsest = coarsest;
                     self.again("deep lines", &c)?;
@@ -223,28 +221,26 @@ fn report(lattices: u64, c: &Counts, near: &norm::Departures) {
         t.transfers, t.rows, t.short, t.no_number, t.none);
     println!("weights   {:>12}   forward and turned; {} coarse permittivities; {} of these numbers not finite",
         t.weights, t.permittivities, t.not_finite);
-    operators_report(&c.operators);
+    store_report(&c.store);
     departures("of the lines above", &c.norm);
     departures("of lines near the limit", near);
 }
 
-fn operators_report(o: &operators::Counts) {
-    if !ours::OPERATORS {
-        println!("operators              -   no library of this layer");
-        return;
-    }
+fn store_report(o: &store::Counts) {
     for choice in 0..2 {
-        println!("{} {:>8}   setups, {} levels; {} operator rows, {} entries, {} of them not finite", ["Galerkin     ", "rediscretized"][choice],
-            o.setups[choice], o.levels[choice], o.rows[choice], o.entries[choice], o.not_finite[choice]);
+        println!("{} {:>8}   setups, {} levels; {} operator rows, {} entries", ["Galerkin     ", "rediscretized"][choice],
+            o.setups[choice], o.levels[choice], o.rows[choice], o.entries[choice]);
     }
-    println!("          {} of these setups of a single level, {} refused, {} done again in exactly full lists; {} Galerkin levels over stored rows, {} untouched diagonals",
-        o.single, o.refused, o.exact, o.stored, o.untouched);
+    println!("          {} of these setups of a single level; {} Galerkin levels over stored rows, {} untouched diagonals", o.single, o.stored, o.untouched);
     println!("          {} with a shift; {}, {} and {} with a Bloch axis of 1, 2 and 3 cells on some level and a phase of modulus other than 1",
         o.shifted, o.wrapped[0], o.wrapped[1], o.wrapped[2]);
-    println!("patterns  {:>12}   rows, of all levels", o.patterns);
-    println!("averaged  {:>12}   permittivities", o.averaged);
-    println!("volumes   {:>12}", o.volumes);
-    println!("shares    {:>12}   inverse; {} of a zero share; {} more left out, the share not finite", o.shares - o.left_out, o.zero_shares, o.left_out);
+    println!("store     {:>12}   numbers and {} words of these setups; {} words and doubles looked at in all calls", o.numbers, o.words, o.looked_at);
+    println!("          {} permittivities averaged, {} volumes, {} inverse shares, {} of a zero share", o.averaged, o.volumes, o.shares, o.zero_shares);
+    println!("calls     {:>12}   filled: {} in lists with room, {} exactly full, {} of other lengths", o.filled.iter().sum::<u64>(),
+        o.filled[0], o.filled[1], o.filled[2]);
+    let r = &o.refused;
+    println!("          {:>12}   refused, 1: {}, 2: {}, 3: {}, 4: {}, 5: {}, 8: {}, 6: {} (by list {:?}), 7: {}", r[1..].iter().sum::<u64>(),
+        r[1], r[2], r[3], r[4], r[5], r[8], r[6], o.short, r[7]);
 }
 
 fn departures(of: &str, d: &norm::Departures) {

@@ -49,15 +49,15 @@ unsafe extern "C" {
         tstarts: *mut usize, tstarts_len: usize, tcolumns: *mut usize, tcolumns_len: usize,
         tvalues: *mut f64, tvalues_len: usize,
     );
-    #[cfg(operators)]
-    fn operators_setup(
+    fn store_setup(
         cells: *const usize, cells_len: usize, scalars: *const f64, scalars_len: usize,
         xn: *const f64, xn_len: usize, xh: *const f64, xh_len: usize,
         yn: *const f64, yn_len: usize, yh: *const f64, yh_len: usize,
         zn: *const f64, zn_len: usize, zh: *const f64, zh_len: usize,
-        eps: *const f64, eps_len: usize,
+        given: *const f64, given_len: usize,
         choice: usize, coarsest: usize,
-        out: *mut usize, out_len: usize, chains: *mut f64, chains_len: usize,
+        out: *mut usize, out_len: usize,
+        ends: *mut usize, ends_len: usize, eps: *mut f64, eps_len: usize,
         starts: *mut usize, starts_len: usize, columns: *mut usize, columns_len: usize,
         values: *mut f64, values_len: usize,
         tstarts: *mut usize, tstarts_len: usize, tcolumns: *mut usize, tcolumns_len: usize,
@@ -65,8 +65,6 @@ unsafe extern "C" {
         ostarts: *mut usize, ostarts_len: usize, ocolumns: *mut usize, ocolumns_len: usize,
         ovalues: *mut f64, ovalues_len: usize,
         scaling: *mut f64, scaling_len: usize,
-        counts: *mut usize, counts_len: usize, finite: *mut usize, finite_len: usize,
-        pstarts: *mut usize, pstarts_len: usize, pcolumns: *mut usize, pcolumns_len: usize,
     );
 }
 
@@ -124,43 +122,25 @@ pub fn transfer(
     )
 }
 
-// Whether there is a library of the operators layer.
-pub const OPERATORS: bool = cfg!(operators);
-
-// The lists lent to a setup. Each but `out` has eight places more than are lent.
+// What is lent to a setup. Each list has eight places more than are lent.
 pub struct Store {
     pub out: Vec<usize>,
-    // starts and columns: forward, turned, operators, the pattern
-    pub words: [Vec<usize>; 8],
-    // permittivities, forward, turned, operators, scaling
-    pub numbers: [Vec<f64>; 5],
-    pub counts: Vec<usize>,
-    pub finite: Vec<usize>,
+    // line ends; starts and columns of the forward, the turned and the operator rows
+    pub words: [Vec<usize>; 7],
+    // permittivities; the forward, the turned and the operator rows; scaling
+    pub doubles: [Vec<f64>; 5],
 }
 
-impl Store {
-    // No room but for the answer.
-    pub fn none() -> Store {
-        Store { out: vec![0; 2], words: [0; 8].map(|_: i32| vec![0; 8]), numbers: [0; 5].map(|_: i32| vec![0.0; 8]), counts: vec![0; 8], finite: vec![0; 8] }
-    }
-}
-
-// A setup of choice 0, Galerkin, 1, rediscretized, or 2, the transfers alone.
-#[cfg(operators)]
+// A setup of choice 0, Galerkin, or of any other, rediscretized.
 pub fn setup(c: &Case, choice: usize, s: &mut Store) {
-    let [fs, fc, ts, tc, os, oc, ps, pc] = &mut s.words;
-    let [chains, fv, tv, ov, scaling] = &mut s.numbers;
+    let [ends, fs, fc, ts, tc, os, oc] = &mut s.words;
+    let [eps, fv, tv, ov, scaling] = &mut s.doubles;
     call!(
-        operators_setup, c, c.lists[6].as_ptr(), c.lists[6].len(), choice, c.coarsest, s.out.as_mut_ptr(), s.out.len(),
-        chains.as_mut_ptr(), chains.len() - 8,
+        store_setup, c, c.lists[6].as_ptr(), c.lists[6].len(), choice, c.coarsest, s.out.as_mut_ptr(), s.out.len() - 8,
+        ends.as_mut_ptr(), ends.len() - 8, eps.as_mut_ptr(), eps.len() - 8,
         fs.as_mut_ptr(), fs.len() - 8, fc.as_mut_ptr(), fc.len() - 8, fv.as_mut_ptr(), fv.len() - 8,
         ts.as_mut_ptr(), ts.len() - 8, tc.as_mut_ptr(), tc.len() - 8, tv.as_mut_ptr(), tv.len() - 8,
         os.as_mut_ptr(), os.len() - 8, oc.as_mut_ptr(), oc.len() - 8, ov.as_mut_ptr(), ov.len() - 8,
-        scaling.as_mut_ptr(), scaling.len() - 8,
-        s.counts.as_mut_ptr(), s.counts.len() - 8, s.finite.as_mut_ptr(), s.finite.len() - 8,
-        ps.as_mut_ptr(), ps.len() - 8, pc.as_mut_ptr(), pc.len() - 8
+        scaling.as_mut_ptr(), scaling.len() - 8
     )
 }
-
-#[cfg(not(operators))]
-pub fn setup(_: &Case, _: usize, _: &mut Store) {}

@@ -1,6 +1,8 @@
-// Refusals 1 to 4: the specification's table written a second time. An answer is number and place.
+// The refusals: the specification's table written a second time. An answer is number and place.
 
 use crate::case::Case;
+use num_complex::Complex64 as c64;
+use source::Level;
 
 pub type Refusal = (usize, usize);
 
@@ -13,7 +15,7 @@ fn bad_number(re: f64, im: f64) -> bool {
     not_finite(re) || not_finite(im) || (re == 0.0 && im == 0.0)
 }
 
-// The rows of the table in their order: of the first `lists` lists where there are as many (7 with the
+// 1 to 4, the rows of the table in their order: of the first `lists` lists where there are as many (7 with the
 // permittivities, 6 without).
 pub fn refusal(c: &Case, lists: usize) -> Option<Refusal> {
     // A list of cells or scalars that is too short stands for a lattice without cells.
@@ -60,4 +62,38 @@ pub fn refusal(c: &Case, lists: usize) -> Option<Refusal> {
         }
     }
     None
+}
+
+// 8: the first level with a forward row that names a coarse edge twice.
+pub fn twice(levels: &[Level]) -> Option<usize> {
+    let repeats = |row: &[usize]| row.iter().enumerate().any(|(k, column)| row[..k].contains(column));
+    levels.iter().position(|level| match &level.transfer {
+        None => false,
+        Some((p, _)) => p.starts.windows(2).any(|s| repeats(&p.columns[s[0]..s[1]])),
+    })
+}
+
+// 6: the first list with fewer places than it needs; of a list of three, any of the three. Twelve lists, as a setup is lent them.
+pub fn short(need: &[usize; 12], lent: &[usize; 12]) -> Option<usize> {
+    let list = [0, 1, 2, 2, 2, 3, 3, 3, 4, 4, 4, 5];
+    (0..12).find(|&k| lent[k] < need[k]).map(|k| list[k])
+}
+
+fn all_finite(numbers: &[c64]) -> bool {
+    numbers.iter().all(|z| !not_finite(z.re) && !not_finite(z.im))
+}
+
+// 7: the first coarse level, or the only one, with a number that is not finite: of its operator, of its permittivities (averaged ones where there is
+// scaling), or of the transfer to it, the volumes, the shares and their inverses included. The Rust stores 1 where a share is not finite.
+pub fn no_number(levels: &[Level]) -> Option<usize> {
+    levels.iter().enumerate().position(|(k, level)| {
+        let own = level.operator.as_ref().is_none_or(|o| all_finite(&o.values));
+        let Some((p, r)) = k.checked_sub(1).and_then(|above| levels[above].transfer.as_ref()) else {
+            return !own;
+        };
+        let scaled = levels[k - 1].scaling.as_ref().is_none_or(|(volumes, inverse)| {
+            all_finite(&level.eps_operator) && all_finite(volumes) && all_finite(&r.apply(volumes)) && all_finite(inverse)
+        });
+        !(own && all_finite(&level.eps) && all_finite(&p.values) && all_finite(&r.values) && scaled)
+    })
 }

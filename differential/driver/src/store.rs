@@ -1,0 +1,343 @@
+// A setup of one input on both sides, Galerkin and rediscretized: the answer, and every place of the twelve lists against the Rust's levels, laid out as
+// the specification says. In lists with room, exactly full, one place short in each list in turn, and of any lengths; what lies behind a list's need,
+// and behind its end, is looked at too.
+
+use crate::case::Case;
+use crate::compare::{lent, numbers_after, same, same_words, shown, words_after};
+use crate::{ours, table};
+use num_complex::Complex64 as c64;
+use source::{Coarse, Level, Multigrid};
+
+// What was found equal.
+#[derive(Default)]
+pub struct Counts {
+    // setups by choice, those of a single level among them
+    pub setups: [u64; 2],
+    pub single: u64,
+    pub levels: [u64; 2],
+    // calls in lists with room, exactly full and of any lengths that were not refused
+    pub filled: [u64; 3],
+    // calls refused, by number, and those of number 6 by list
+    pub refused: [u64; 9],
+    pub short: [u64; 6],
+    // of each setup once, what its lists hold: words and numbers
+    pub words: u64,
+    pub numbers: u64,
+    // of all calls, the words and doubles looked at
+    pub looked_at: u64,
+    // setups with a shift, and with a Bloch axis of 1, 2 or 3 cells on some level, its phase of a modulus other than 1
+    pub shifted: u64,
+    pub wrapped: [u64; 3],
+    // operator rows and their entries
+    pub rows: [u64; 2],
+    pub entries: [u64; 2],
+    // Galerkin levels over stored rows, and diagonals of 1 that no term touches
+    pub stored: u64,
+    pub untouched: u64,
+    pub averaged: u64,
+    pub volumes: u64,
+    pub shares: u64,
+    pub zero_shares: u64,
+}
+
+// Rows of several levels, one part behind another.
+#[derive(Default)]
+struct Parts {
+    starts: Vec<usize>,
+    columns: Vec<usize>,
+    values: Vec<c64>,
+    // for each part its level and where its starts and its terms begin
+    begin: Vec<(usize, usize, usize)>,
+}
+
+impl Parts {
+    fn add(&mut self, level: usize, starts: &[usize], columns: &[usize], values: &[c64]) {
+        self.begin.push((level, self.starts.len(), self.columns.len()));
+        self.starts.extend(starts);
+        self.columns.extend(columns);
+        self.values.extend(values);
+    }
+
+    // Where start k stands.
+    fn start(&self, k: usize) -> String {
+        match self.begin.iter().rev().find(|b| b.1 <= k).filter(|_| k < self.starts.len()) {
+            Some(b) => format!("level {}, start {}", b.0, k - b.1),
+            None => format!("start {k}, behind the last"),
+        }
+    }
+
+    // Where term k stands.
+    fn term(&self, k: usize) -> String {
+        let Some(p) = self.begin.iter().rposition(|b| b.2 <= k).filter(|_| k < self.columns.len()) else {
+            return format!("term {k}, behind the last");
+        };
+        let (level, s, from) = self.begin[p];
+        let end = self.begin.get(p + 1).map_or(self.starts.len(), |b| b.1);
+        let r = self.starts[s..end].partition_point(|&start| start <= k - from) - 1;
+        format!("level {level}, row {r}, term {}, column {}", k - from - self.starts[s + r], self.columns[k])
+    }
+}
+
+// Words or numbers of several parts, one behind another; for each part its name and where it begins.
+struct Named<T> {
+    all: Vec<T>,
+    begin: Vec<(String, usize)>,
+}
+
+impl<T: Copy> Named<T> {
+    fn add(&mut self, name: String, more: &[T]) {
+        self.begin.push((name, self.all.len()));
+        self.all.extend(more);
+    }
+
+    fn place(&self, k: usize) -> String {
+        match self.begin.iter().rev().find(|p| p.1 <= k).filter(|_| k < self.all.len()) {
+            Some((name, from)) => format!("{name}, number {}", k - from),
+            None => format!("number {k}, behind the last"),
+        }
+    }
+}
+
+// The store. Of the twelve lists, as a setup is lent them, those of WORDS hold words, those of NUMBERS numbers.
+struct Lists {
+    ends: Named<usize>,
+    chains: Named<c64>,
+    forward: Parts,
+    turned: Parts,
+    operators: Parts,
+    scaling: Named<c64>,
+}
+
+const WORDS: [usize; 7] = [0, 2, 3, 5, 6, 8, 9];
+const NUMBERS: [usize; 5] = [1, 4, 7, 10, 11];
+const LISTS: [&str; 12] = [
+    "line ends", "permittivities", "forward starts", "forward columns", "forward numbers", "turned starts", "turned columns", "turned numbers",
+    "operator starts", "operator columns", "operator numbers", "scaling",
+];
+
+impl Lists {
+    // The store as the Rust's levels fill it.
+    fn of(levels: &[Level], rediscretized: bool) -> Lists {
+        let mut l = Lists {
+            ends: Named { all: Vec::new(), begin: Vec::new() },
+            chains: Named { all: Vec::new(), begin: Vec::new() },
+            forward: Parts::default(),
+            turned: Parts::default(),
+            operators: Parts::default(),
+            scaling: Named { all: Vec::new(), begin: Vec::new() },
+        };
+        for (k, level) in levels.iter().enumerate() {
+            for (axis, line) in level.lines.iter().enumerate() {
+                l.ends.add(format!("level {k}, axis {axis}"), &line.ends);
+            }
+            l.chains.add(format!("level {k}"), &level.eps);
+            if let Some(o) = &level.operator {
+                l.operators.add(k, &o.starts, &o.columns, &o.values);
+            }
+            if let Some((p, r)) = &level.transfer {
+                l.forward.add(k, &p.starts, &p.columns, &p.values);
+                l.turned.add(k, &r.starts, &r.columns, &r.values);
+            }
+            if let Some((volumes, inverse)) = &level.scaling {
+                l.scaling.add(format!("volumes of level {k}"), volumes);
+                l.scaling.add(format!("inverse shares of level {}", k + 1), inverse);
+            }
+        }
+        for (k, level) in levels.iter().enumerate().skip(1).filter(|_| rediscretized) {
+            l.chains.add(format!("averaged, level {k}"), &level.eps_operator);
+        }
+        l
+    }
+
+    fn words(&self) -> [&[usize]; 7] {
+        let [f, t, o] = [&self.forward, &self.turned, &self.operators];
+        [&self.ends.all, &f.starts, &f.columns, &t.starts, &t.columns, &o.starts, &o.columns]
+    }
+
+    fn numbers(&self) -> [&[c64]; 5] {
+        [&self.chains.all, &self.forward.values, &self.turned.values, &self.operators.values, &self.scaling.all]
+    }
+
+    // How many places each list needs.
+    fn need(&self) -> [usize; 12] {
+        let mut need = [0; 12];
+        for (k, list) in WORDS.iter().zip(self.words()) {
+            need[*k] = list.len();
+        }
+        for (k, list) in NUMBERS.iter().zip(self.numbers()) {
+            need[*k] = list.len();
+        }
+        need
+    }
+
+    // What place k of a list is.
+    fn place(&self, list: usize, k: usize) -> String {
+        let rows = [&self.forward, &self.turned, &self.operators][(list.clamp(2, 10) - 2) / 3];
+        match list {
+            0 => self.ends.place(k),
+            1 => self.chains.place(k),
+            11 => self.scaling.place(k),
+            2 | 5 | 8 => rows.start(k),
+            _ => rows.term(k),
+        }
+    }
+}
+
+// What a call leaves in the lists.
+#[derive(Clone, Copy)]
+enum Left<'a> {
+    Untouched,
+    Zeros,
+    Filled(&'a Lists),
+}
+
+fn is_number(list: usize) -> bool {
+    NUMBERS.contains(&list)
+}
+
+// The length of a list with so many places, in words or doubles.
+fn length(list: usize, places: usize) -> usize {
+    if is_number(list) { 2 * places } else { places }
+}
+
+// One call with lists of these lengths, and two words for the answer.
+fn call(c: &Case, choice: usize, lengths: [usize; 12], out: usize, answer: [usize; 2], left: Left, counts: &mut Counts) -> Result<(), String> {
+    let what = |list: &str| format!("{} setup, answer {answer:?}, {list}", ["Galerkin", "rediscretized"][choice.min(1)]);
+    let mut s = ours::Store {
+        out: words_after(out, &[]),
+        words: WORDS.map(|k| words_after(lengths[k], &[])),
+        doubles: NUMBERS.map(|k| numbers_after(lengths[k], &[])),
+    };
+    ours::setup(c, choice, &mut s);
+    same_words(&what("out"), &s.out, &words_after(out, &answer))?;
+    let name = |list: usize, k: usize| match left {
+        Left::Filled(e) => format!("{}, {}", LISTS[list], e.place(list, k)),
+        _ => format!("{}, place {k}", LISTS[list]),
+    };
+    for (q, &list) in WORDS.iter().enumerate() {
+        let theirs = match left {
+            Left::Untouched => words_after(lengths[list], &[]),
+            Left::Zeros => words_after(lengths[list], &vec![0; lengths[list]]),
+            Left::Filled(e) => words_after(lengths[list], e.words()[q]),
+        };
+        let ours = &s.words[q];
+        if let Some(k) = (0..theirs.len()).find(|&k| ours[k] != theirs[k]) {
+            return Err(format!("{}: ours {}, expected {}", what(&name(list, k)), ours[k], theirs[k]));
+        }
+        counts.looked_at += theirs.len() as u64;
+    }
+    for (q, &list) in NUMBERS.iter().enumerate() {
+        let mut theirs = match left {
+            Left::Filled(e) => numbers_after(lengths[list], e.numbers()[q]),
+            _ => numbers_after(lengths[list], &[]),
+        };
+        if let Left::Zeros = left {
+            // an odd double at the end too
+            theirs[..lengths[list]].fill(0.0);
+        }
+        let ours = &s.doubles[q];
+        if let Some(k) = (0..theirs.len()).find(|&k| !same(ours[k], theirs[k])) {
+            return Err(format!(
+                "{}, {} part: ours {}, expected {}",
+                what(&name(list, k / 2)), ["real", "imaginary"][k % 2], shown(ours[k]), shown(theirs[k])
+            ));
+        }
+        counts.looked_at += theirs.len() as u64;
+    }
+    counts.refused[answer[0]] += 1;
+    if answer[0] == 6 {
+        counts.short[answer[1]] += 1;
+    }
+    Ok(())
+}
+
+// Both choices of one input.
+pub fn setups(c: &Case, counts: &mut Counts) -> Result<(), String> {
+    let refused = table::refusal(c, 7);
+    for rediscretized in [false, true] {
+        // whatever is not 0 is rediscretized
+        let choices = if rediscretized { [1, 2, usize::MAX] } else { [0; 3] };
+        if let Some((number, place)) = refused {
+            call(c, choices[0], [40; 12], 2, [number, place], Left::Untouched, counts)?;
+            continue;
+        }
+        let coarse = if rediscretized { Coarse::Rediscretized } else { Coarse::Galerkin };
+        let options = Multigrid { shift: c.scalars[4], coarsest: c.coarsest, coarse };
+        match source::setup(&c.lattice(), &c.numbers(6), &options) {
+            None => call(c, choices[0], [41; 12], 2, [5, 12], Left::Zeros, counts)?,
+            Some(levels) => sound(c, choices, &levels, counts)?,
+        }
+    }
+    Ok(())
+}
+
+// A setup that has levels, in lists of several lengths.
+fn sound(c: &Case, choices: [usize; 3], levels: &[Level], counts: &mut Counts) -> Result<(), String> {
+    let e = Lists::of(levels, choices[0] > 0);
+    let need = e.need();
+    let (twice, no_number) = (table::twice(levels), table::no_number(levels));
+    // the table's order: 8, 6, 7
+    let one = |choice: usize, lengths: [usize; 12], out: usize, counts: &mut Counts| -> Result<bool, String> {
+        let places: [usize; 12] = std::array::from_fn(|k| if is_number(k) { lengths[k] / 2 } else { lengths[k] });
+        let refused = twice.map(|l| [8, l]).or(table::short(&need, &places).map(|l| [6, l])).or(no_number.map(|l| [7, l]));
+        let left = if refused.is_some() { Left::Zeros } else { Left::Filled(&e) };
+        call(c, choice, lengths, out, refused.unwrap_or([0, levels.len()]), left, counts)?;
+        Ok(refused.is_none())
+    };
+    // with room, so that wrong rows find place too, and an odd double behind
+    let exact: [usize; 12] = std::array::from_fn(|k| length(k, need[k]));
+    let ample = std::array::from_fn(|k| length(k, 4 * need[k] + 1024) + k % 2);
+    let filled = one(choices[0], ample, 2, counts)?;
+    counts.filled[0] += filled as u64;
+    if filled {
+        count(c, levels, &e, choices[0].min(1), counts);
+    }
+    counts.filled[1] += one(choices[1], exact, 2, counts)? as u64;
+    // one place short: of numbers by both doubles, or by one
+    for k in (0..12).filter(|&k| need[k] > 0) {
+        let mut lengths = exact;
+        lengths[k] -= if is_number(k) { 1 + (c.coarsest + k) % 2 } else { 1 };
+        one(choices[0], lengths, 2, counts)?;
+    }
+    if c.room != [0; 8] {
+        let lengths = std::array::from_fn(|k| lent(exact[k], c.room[k % 8]));
+        counts.filled[2] += one(choices[2], lengths, lent(2, c.room[6]), counts)? as u64;
+    }
+    Ok(())
+}
+
+// What a setup's lists hold, once.
+fn count(c: &Case, levels: &[Level], e: &Lists, choice: usize, counts: &mut Counts) {
+    counts.setups[choice] += 1;
+    counts.single += (levels.len() == 1) as u64;
+    counts.levels[choice] += levels.len() as u64;
+    counts.words += e.words().iter().map(|list| list.len() as u64).sum::<u64>();
+    counts.numbers += e.numbers().iter().map(|list| list.len() as u64).sum::<u64>();
+    counts.shifted += (c.scalars[4] != 0.0) as u64;
+    for n in 1..4 {
+        let turned = |axis: usize| c.is_bloch(axis) && (c.phase(axis).norm() - 1.0).abs() > 1e-9;
+        let met = (0..3).any(|axis| turned(axis) && levels.iter().any(|l| l.lines[axis].cells() == n));
+        counts.wrapped[n - 1] += met as u64;
+    }
+    counts.rows[choice] += (e.operators.starts.len() - e.operators.begin.len()) as u64;
+    counts.entries[choice] += e.operators.columns.len() as u64;
+    if choice == 0 {
+        counts.stored += levels.len().saturating_sub(2) as u64;
+        for level in levels {
+            if let Some((_, r)) = &level.transfer {
+                counts.untouched += r.starts.windows(2).filter(|s| s[0] == s[1]).count() as u64;
+            }
+        }
+        return;
+    }
+    counts.averaged += levels.iter().skip(1).map(|l| l.eps_operator.len() as u64).sum::<u64>();
+    for level in levels {
+        if let Some((fine, inverse)) = &level.scaling {
+            counts.volumes += fine.len() as u64;
+            counts.shares += inverse.len() as u64;
+        }
+        if let (Some((_, r)), Some((fine, _))) = (&level.transfer, &level.scaling) {
+            counts.zero_shares += r.apply(fine).iter().filter(|v| v.re == 0.0 && v.im == 0.0).count() as u64;
+        }
+    }
+}
