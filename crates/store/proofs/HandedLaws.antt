@@ -40,7 +40,7 @@ use Rattle.store.specs.declared.Choice.{Choice}
 use Rattle.store.specs.declared.handed.Cells.{Cells}
 use Rattle.store.specs.declared.handed.Span.{Span}
 use Rattle.store.specs.declared.handed.Span.the-variants.{At, Nowhere}
-use Rattle.store.specs.Handed.{cellsIn, someCells, levelThere, edgesIn, levelsThere, startIn, termsOff, partAt, rowAt, rowsFrom, transferRow, firstOf, operatorRow, numbersHanded, columnsHanded, partOf, weightRowOf, operatorRowOf, CellsOf}
+use Rattle.store.specs.Handed.{cellsIn, someCells, levelThere, edgesIn, levelsThere, startIn, termsOff, partAt, rowAt, rowsFrom, transferRow, weightTerms, firstOf, operatorRow, numbersHanded, columnsHanded, partOf, weightRowOf, operatorRowOf, CellsOf}
 
 -- ---- tests
 
@@ -326,14 +326,32 @@ module _ (c : Cells) (ss : List ℕ) (room L r : ℕ) where
 
 -- ---- what is handed back
 
-module _ (c : Cells) {b : Bool} (ss : List ℕ) (xs : List Float) (ts : List ℕ) (ys : List Float) (L r : ℕ) {s : Span} where
-  pub turned-handed : b ≡ true → transferRow c 1 ts (length ys / 2) L r ≡ s → numbersHanded xs ys s ≡ weightRowOf c b ss xs ts ys L r
-  unfolding weightRowOf
-  turned-handed e d = rw (e, d) refl
+module _ (c : Cells) (b : Bool) (ss : List ℕ) (room : ℕ) (ts : List ℕ) (troom L r : ℕ) where
+  pub terms-turned : b ≡ true → transferRow c 1 ts troom L r ≡ weightTerms c b ss room ts troom L r
+  unfolding weightTerms
+  terms-turned e = rw e refl
 
-  pub forward-handed : b ≡ false → transferRow c 0 ss (length xs / 2) L r ≡ s → numbersHanded xs xs s ≡ weightRowOf c b ss xs ts ys L r
+  pub terms-forward : b ≡ false → transferRow c 0 ss room L r ≡ weightTerms c b ss room ts troom L r
+  unfolding weightTerms
+  terms-forward e = rw e refl
+
+  -- a row that is found fits the list that it is of
+  pub turned-fits : {i j : ℕ} → b ≡ true → weightTerms c b ss room ts troom L r ≡ At i j → (i ≤ j) × (j ≤ troom)
+  turned-fits e d = transfer-fits c 1 ts troom L r (terms-turned e ∙ d)
+
+  pub forward-fits : {i j : ℕ} → b ≡ false → weightTerms c b ss room ts troom L r ≡ At i j → (i ≤ j) × (j ≤ room)
+  forward-fits e d = transfer-fits c 0 ss room L r (terms-forward e ∙ d)
+
+module _ (c : Cells) (b : Bool) (ss : List ℕ) (xs : List Float) (ts : List ℕ) (ys : List Float) (L r : ℕ) {s : Span} where
+  pub weight-handed : weightTerms c b ss (length xs / 2) ts (length ys / 2) L r ≡ s → numbersHanded xs (cond b ys xs) s ≡ weightRowOf c b ss xs ts ys L r
   unfolding weightRowOf
-  forward-handed e d = rw (e, d) refl
+  weight-handed d = rw d refl
+
+  pub turned-handed : b ≡ true → weightTerms c b ss (length xs / 2) ts (length ys / 2) L r ≡ s → numbersHanded xs ys s ≡ weightRowOf c b ss xs ts ys L r
+  turned-handed e d = ap (λ (a : Bool). numbersHanded xs (cond a ys xs) s) (sym e) ∙ weight-handed d
+
+  pub forward-handed : b ≡ false → weightTerms c b ss (length xs / 2) ts (length ys / 2) L r ≡ s → numbersHanded xs xs s ≡ weightRowOf c b ss xs ts ys L r
+  forward-handed e d = ap (λ (a : Bool). numbersHanded xs (cond a ys xs) s) (sym e) ∙ weight-handed d
 
 pub operator-handed : (c : Cells) (ss cs : List ℕ) (L r : ℕ) {s : Span} → operatorRow c ss (length cs) L r ≡ s → columnsHanded cs s ≡ operatorRowOf c ss cs L r
 unfolding operatorRowOf
@@ -627,8 +645,9 @@ module _ (l : FullLattice) (limits : Limits (l .grid)) (m : ℕ) (c : Cells) (ow
       ≡ partOf xs (2 * (forwardOff l L + startOf (forwardCols l L) r)) (2 * (forwardOff l L + startOf (forwardCols l L) (suc r)))
   forward-row ss xs ts ys L r a b h k =
       sym
-      (forward-handed c (laid ss 0 (rows (forwardStartsOf l) m)) xs ts ys L r refl
-      (transfer-laid 0 (forwardCols l) (edgesOn l) (λ q o. ap (edgesIn c) (omega arith) ∙ edges-own q (omega arith)) ss (length xs / 2) L r a (omega arith) h k))
+      (forward-handed c false (laid ss 0 (rows (forwardStartsOf l) m)) xs ts ys L r refl
+      (sym (terms-forward c false (laid ss 0 (rows (forwardStartsOf l) m)) (length xs / 2) ts (length ys / 2) L r refl)
+      ∙ transfer-laid 0 (forwardCols l) (edgesOn l) (λ q o. ap (edgesIn c) (omega arith) ∙ edges-own q (omega arith)) ss (length xs / 2) L r a (omega arith) h k))
 
   -- the turned row
   pub turned-row : (ss : List ℕ) (xs : List Float) (ts : List ℕ) (ys : List Float) (L r : ℕ) → startsOff (nextEdges l) m ≤ length ts → 2 * turnedOff l m ≤ length ys
@@ -637,8 +656,9 @@ module _ (l : FullLattice) (limits : Limits (l .grid)) (m : ℕ) (c : Cells) (ow
       ≡ partOf ys (2 * (turnedOff l L + startOf (turnedCols l L) r)) (2 * (turnedOff l L + startOf (turnedCols l L) (suc r)))
   turned-row ss xs ts ys L r a b h k =
       sym
-      (turned-handed c ss xs (laid ts 0 (rows (turnedStartsOf l) m)) ys L r refl
-      (transfer-laid 1 (turnedCols l) (nextEdges l) (λ q o. ap (edgesIn c) (add-one q) ∙ edges-own (suc q) (omega arith)) ts (length ys / 2) L r a (omega arith) h k))
+      (turned-handed c true ss xs (laid ts 0 (rows (turnedStartsOf l) m)) ys L r refl
+      (sym (terms-turned c true ss (length xs / 2) (laid ts 0 (rows (turnedStartsOf l) m)) (length ys / 2) L r refl)
+      ∙ transfer-laid 1 (turnedCols l) (nextEdges l) (λ q o. ap (edgesIn c) (add-one q) ∙ edges-own (suc q) (omega arith)) ts (length ys / 2) L r a (omega arith) h k))
 
   pub forward-row-long : (ss : List ℕ) (xs : List Float) (ts : List ℕ) (ys : List Float) (L r : ℕ) → startsOff (edgesOn l) m ≤ length ss
       → 2 * forwardOff l m ≤ length xs → L < m → r < edgesOn l L

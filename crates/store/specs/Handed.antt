@@ -70,6 +70,10 @@ rowsFrom c first q = edgesIn c (q + first)
 unfoldable pub transferRow : Cells → ℕ → List ℕ → ℕ → ℕ → ℕ → Span
 transferRow c first ss room L r = cond (levelsThere c (L + 2)) (rowAt (rowsFrom c first) ss room L r) Nowhere
 
+-- as the caller chooses: of the turned list or of the forward one, each with its room for terms
+unfoldable pub weightTerms : Cells → Bool → List ℕ → ℕ → List ℕ → ℕ → ℕ → ℕ → Span
+weightTerms c turned ss room ts troom L r = cond turned (transferRow c 1 ts troom L r) (transferRow c 0 ss room L r)
+
 -- the first level whose operator is stored: level 0 only where it is the only one
 abbrev pub firstOf : Cells → ℕ
 firstOf c = cond (leb (c .levels) 1) 0 1
@@ -94,8 +98,7 @@ columnsHanded cs (At i j) = partOf cs i j
 columnsHanded cs Nowhere = partOf cs 0 0
 
 unfoldable pub weightRowOf : Cells → Bool → List ℕ → List Float → List ℕ → List Float → ℕ → ℕ → List Float
-weightRowOf c turned ss xs ts ys L r =
-    cond turned (numbersHanded xs ys (transferRow c 1 ts (length ys / 2) L r)) (numbersHanded xs xs (transferRow c 0 ss (length xs / 2) L r))
+weightRowOf c turned ss xs ts ys L r = numbersHanded xs (cond turned ys xs) (weightTerms c turned ss (length xs / 2) ts (length ys / 2) L r)
 
 unfoldable pub operatorRowOf : Cells → List ℕ → List ℕ → ℕ → ℕ → List ℕ
 operatorRowOf c ss cs L r = columnsHanded cs (operatorRow c ss (length cs) L r)

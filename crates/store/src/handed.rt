@@ -3,7 +3,7 @@
 
 ghost use mathlib.Core.Path.{_≡_};
 ghost use Prim.Native.Nat.{_+_, _<_};
-ghost use Rattle.store.specs.Handed.{cellsIn, someCells, levelThere, edgesIn, levelsThere, partAt, rowAt, rowsFrom, transferRow, firstOf, operatorRow, weightRowOf, operatorRowOf};
+ghost use Rattle.store.specs.Handed.{cellsIn, someCells, levelThere, edgesIn, levelsThere, partAt, rowAt, rowsFrom, transferRow, firstOf, operatorRow, weightTerms, weightRowOf, operatorRowOf};
 
 // The cells of axis a on level L are number 3 L + a. A level exists if it is below `levels` and below 12 and each of its axes has 1 to 64 cells. Then
 // it has at most 3 × 64^3 edges: the limit of 4,096 cells, refusal 1, is not needed here.
@@ -161,8 +161,8 @@ fn first_stored(c: Cells) -> usize
     1
 }
 
-// A row of an operator's part.
-fn operator_terms(c: Cells, starts: &[usize], room: usize, level: usize, row: usize) -> Span
+// The terms of row `row` of the operator of a level. `room`: how many terms the list has place for.
+pub fn operator_terms(c: Cells, starts: &[usize], room: usize, level: usize, row: usize) -> Span
     ensures { λ r. ⌜ r ≡ operatorRow c (now (starts .entry)) room level row ⌝ }
 {
     let first = first_stored(c);
@@ -178,8 +178,28 @@ fn operator_terms(c: Cells, starts: &[usize], room: usize, level: usize, row: us
     row_at(c, first, starts, room, level - first, row)
 }
 
-// Row `row` of the transfer from level `level` + 1 to `level`: the part of the caller's values that holds its weights, of the forward list or, if
-// `turned`, of the turned one. A level or row that doesn't exist, or whose starts don't fit the list, gives the empty front of the forward list.
+// The terms of row `row` of the transfer from level `level` + 1 to `level`: in the forward list or, if `turned`, in the turned one. `room`, `troom`: how
+// many terms the two lists have place for.
+pub fn weight_terms(
+    c: Cells,
+    turned: bool,
+    starts: &[usize],
+    room: usize,
+    tstarts: &[usize],
+    troom: usize,
+    level: usize,
+    row: usize,
+) -> Span
+    ensures { λ r. ⌜ r ≡ weightTerms c turned (now (starts .entry)) room (now (tstarts .entry)) troom level row ⌝ }
+{
+    if turned {
+        return transfer_row(c, 1, tstarts, troom, level, row);
+    }
+    transfer_row(c, 0, starts, room, level, row)
+}
+
+// The same row as the part of the caller's values that holds its weights. A level or row that doesn't exist, or whose starts don't fit the list, gives
+// the empty front of the forward list.
 pub fn weight_row<'a>(
     c: Cells,
     turned: bool,
@@ -192,15 +212,14 @@ pub fn weight_row<'a>(
 ) -> &'a [f64]
     ensures { λ r. ⌜ now r ≡ weightRowOf c turned (now (starts .entry)) (now (values .entry)) (now (tstarts .entry)) (now (tvalues .entry)) level row ⌝ }
 {
-    if turned {
-        let Span::At(i, j) = transfer_row(c, 1, tstarts, tvalues.len() / 2, level, row) else {
-            return &values[0..0];
-        };
-        return &tvalues[2 * i..2 * j];
-    }
-    let Span::At(i, j) = transfer_row(c, 0, starts, values.len() / 2, level, row) else {
+    let room = values.len() / 2;
+    let troom = tvalues.len() / 2;
+    let Span::At(i, j) = weight_terms(c, turned, starts, room, tstarts, troom, level, row) else {
         return &values[0..0];
     };
+    if turned {
+        return &tvalues[2 * i..2 * j];
+    }
     &values[2 * i..2 * j]
 }
 

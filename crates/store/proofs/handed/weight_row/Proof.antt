@@ -4,21 +4,21 @@ use Prim.Native.Nat.{_≤_, _/_}
 use lib.ListN.{length}
 use mathlib.Core.Path.{sym, _∙_}
 use native.Mathlib.Omega.{arith}
-use Rattle.store.proofs.HandedLaws.{turned-handed, forward-handed, transfer-fits}
+use Rattle.store.proofs.HandedLaws.{weight-handed, turned-handed, forward-handed, turned-fits, forward-fits}
 use borrow.Author.Needs.{needs}
 use Rattle.store.proofs.handed.weight_row.Statement.{statement}
 use Rattle.store.proofs.handed.weight_row.Tie as tie
 
-fits : (c : tie.After-known-told)
-    → (c .before .i .given .0 .0 ≤ c .before .i .given .0 .1 .0) × (c .before .i .given .0 .1 .0 ≤ length (c .before .before .before .before .before .before .before .before .before .args .tvalues .now) / 2)
-fits c = transfer-fits _ _ _ _ _ _ (sym (c .before .before .before .transfer-row .ensures) ∙ c .before .i .given .1)
+fits : (c : tie.Then1)
+    → (c .before .before .i .given .0 .0 ≤ c .before .before .i .given .0 .1 .0) × (c .before .before .i .given .0 .1 .0 ≤ length (c .before .before .before .before .before .before .before .before .before .args .tvalues .now) / 2)
+fits c = turned-fits _ _ _ _ _ _ _ _ (c .if1 .taken) (sym (c .before .before .before .before .weight-terms .ensures) ∙ c .before .before .i .given .1)
 
-fits2 : (c : tie.After-known-told2)
-    → (c .before .i2 .given .0 .0 ≤ c .before .i2 .given .0 .1 .0) × (c .before .i2 .given .0 .1 .0 ≤ length (c .before .before .before .before .before .before .before .before .before .args .values .now) / 2)
-fits2 c = transfer-fits _ _ _ _ _ _ (sym (c .before .before .before .transfer-row2 .ensures) ∙ c .before .i2 .given .1)
+fits2 : (c : tie.Else1)
+    → (c .before .before .i .given .0 .0 ≤ c .before .before .i .given .0 .1 .0) × (c .before .before .i .given .0 .1 .0 ≤ length (c .before .before .before .before .before .before .before .before .before .args .values .now) / 2)
+fits2 c = forward-fits _ _ _ _ _ _ _ _ (c .if1 .left) (sym (c .before .before .before .before .weight-terms .ensures) ∙ c .before .before .i .given .1)
 
-transfer-row-requires : tie.Need-transfer-row-requires
-transfer-row-requires c κs = search needs
+weight-terms-requires : tie.Need-weight-terms-requires
+weight-terms-requires c κs = search needs
 
 enum-known-i : tie.Need-enum-known-i
 enum-known-i c = search needs
@@ -36,7 +36,7 @@ part-result-end : tie.Need-part-result-end
 part-result-end c = search needs
 
 returns : tie.Need-returns
-returns c = turned-handed _ _ _ _ _ _ _ (c .before .before .before .before .if1 .taken) (sym (c .before .before .before .transfer-row .ensures) ∙ c .before .enum-told .given .1)
+returns c = weight-handed _ _ _ _ _ _ _ _ (sym (c .before .before .before .weight-terms .ensures) ∙ c .before .enum-told .given .1)
 
 mul-result : tie.Need-mul-result
 mul-result c = omega (arith, fits c)
@@ -57,28 +57,7 @@ part-result-end-2 : tie.Need-part-result-end-2
 part-result-end-2 c = omega (arith, fits c)
 
 returns-2 : tie.Need-returns-2
-returns-2 c = turned-handed _ _ _ _ _ _ _ (c .before .before .before .before .before .if1 .taken) (sym (c .before .before .before .before .transfer-row .ensures) ∙ c .before .before .i .given .1)
-
-transfer-row-requires-2 : tie.Need-transfer-row-requires-2
-transfer-row-requires-2 c κs = search needs
-
-enum-known-i-2 : tie.Need-enum-known-i-2
-enum-known-i-2 c = search needs
-
-enum-told-2 : tie.Need-enum-told-2
-enum-told-2 c = search needs
-
-sub-result-3 : tie.Need-sub-result-3
-sub-result-3 c = search needs
-
-part-result-start-3 : tie.Need-part-result-start-3
-part-result-start-3 c = search needs
-
-part-result-end-3 : tie.Need-part-result-end-3
-part-result-end-3 c = search needs
-
-returns-3 : tie.Need-returns-3
-returns-3 c = forward-handed _ _ _ _ _ _ _ (c .before .before .before .before .if1 .left) (sym (c .before .before .before .transfer-row2 .ensures) ∙ c .before .enum-told2 .given .1)
+returns-2 c = turned-handed _ _ _ _ _ _ _ _ (c .before .if1 .taken) (sym (c .before .before .before .before .before .weight-terms .ensures) ∙ c .before .before .before .i .given .1)
 
 mul-result-4 : tie.Need-mul-result-4
 mul-result-4 c = omega (arith, fits2 c)
@@ -89,23 +68,23 @@ mul-result-5 c = omega (arith, fits2 c)
 mul-result-6 : tie.Need-mul-result-6
 mul-result-6 c = omega (arith, fits2 c)
 
-sub-result-4 : tie.Need-sub-result-4
-sub-result-4 c = omega (arith, fits2 c)
+sub-result-3 : tie.Need-sub-result-3
+sub-result-3 c = omega (arith, fits2 c)
 
-part-result-start-4 : tie.Need-part-result-start-4
-part-result-start-4 c = omega (arith, fits2 c)
+part-result-start-3 : tie.Need-part-result-start-3
+part-result-start-3 c = omega (arith, fits2 c)
 
-part-result-end-4 : tie.Need-part-result-end-4
-part-result-end-4 c = omega (arith, fits2 c)
+part-result-end-3 : tie.Need-part-result-end-3
+part-result-end-3 c = omega (arith, fits2 c)
 
-returns-4 : tie.Need-returns-4
-returns-4 c = forward-handed _ _ _ _ _ _ _ (c .before .before .before .before .before .if1 .left) (sym (c .before .before .before .before .transfer-row2 .ensures) ∙ c .before .before .i2 .given .1)
+returns-3 : tie.Need-returns-3
+returns-3 c = forward-handed _ _ _ _ _ _ _ _ (c .before .if1 .left) (sym (c .before .before .before .before .before .weight-terms .ensures) ∙ c .before .before .before .i .given .1)
 
 pub weight-row-spec : {M : Type 1} → statement M
 weight-row-spec =
     tie.close
     (tie.spec
-    transfer-row-requires
+    weight-terms-requires
     enum-known-i
     enum-told
     sub-result
@@ -119,17 +98,10 @@ weight-row-spec =
     part-result-start-2
     part-result-end-2
     returns-2
-    transfer-row-requires-2
-    enum-known-i-2
-    enum-told-2
-    sub-result-3
-    part-result-start-3
-    part-result-end-3
-    returns-3
     mul-result-4
     mul-result-5
     mul-result-6
-    sub-result-4
-    part-result-start-4
-    part-result-end-4
-    returns-4)
+    sub-result-3
+    part-result-start-3
+    part-result-end-3
+    returns-3)
