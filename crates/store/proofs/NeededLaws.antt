@@ -1,10 +1,11 @@
 -- What a setup needs: the cells of the levels, and the verdict behind the checks and with them.
 -- Assumes nothing.
-use Prim.Native.Nat.{ℕ, zero, suc, _+_, _-_, _/_, _%_, _≤_, _<_}
+use Prim.Native.Nat.{ℕ, zero, suc, _+_, _-_, _*_, _/_, _%_, _≤_, _<_}
 use native.Mathlib.Omega.{arith}
 use mathlib.Core.Path.{_≡_, refl, sym, ap, _∙_}
 use mathlib.Core.Bool.{Bool, true, false, false≢true, cond}
 use mathlib.Core.List.{List}
+use borrow.Author.Tests.{lt-ltb}
 use lib.Dec.{ltb}
 use lib.ListN.{length, getD}
 use Rattle.numbers.specs.Lists.{tabulate}
@@ -21,6 +22,7 @@ use Rattle.lattice.proofs.Equations.{linesTo-is, lineNo-is, noLine-is, packed-i
 use Rattle.store.specs.Setup.{Input, fullOf, transfersOf, allTo, namesOnce}
 use Rattle.store.specs.Phases.{blankLine}
 use Rattle.store.specs.FillSteps.{needsOf, FirstBad}
+use Rattle.store.specs.Handed.{CellsOf}
 use Rattle.store.specs.Needed.{noNeeds, noCells, cellsOn, cellsOf, lineCells, NeededOf, neededVerdict, levelsVerdict}
 use Rattle.store.specs.Steps.{answerOf}
 use Rattle.store.specs.declared.Choice.{Choice}
@@ -43,6 +45,21 @@ cells-found l m {lines} e =
     go : (b : Bool) (es : List ℕ) (n : ℕ) → n ≡ length es - 1 → cond b (packed es) noLine .cells ≡ cond b n 0
     go true es n e = ap (λ (f : Line). f .cells) (packed-is es) ∙ sym e
     go false es n e = ap (λ (f : Line). f .cells) noLine-is
+
+-- each level's own
+pub cells-own : (l : FullLattice) (m : ℕ) → m < 12 → CellsOf l m (cellsOf l m)
+unfolding cellsOn
+cells-own l m few =
+    record {
+      levels-are = omega arith;
+      few = few;
+      cells-are =
+          λ L a h b.
+          let q = 3 * L + a in
+          let d : q / 3 ≡ L = omega arith in
+          let r : q % 3 ≡ a = omega arith in
+          tabulate-at-0 (cellsOn l m) 36 q 0 (omega arith) ∙ rw (d, r, lt-ltb L (suc m) (omega arith)) refl;
+    }
 
 -- they are those of the levels
 pub lines-are-to : {l : FullLattice} {coarsest n : ℕ} {r : Lines} → Joined l coarsest r → r .depth ≡ Depth.Levels n → 0 < n → r .lines ≡ linesTo l (suc (n - 1))
