@@ -39,7 +39,7 @@ pub enum Answer {
 }
 
 // Whether nothing is refused.
-fn goes_on(a: Answer) -> bool
+pub fn goes_on(a: Answer) -> bool
     ensures { λ r. ⌜ r ≡ isSound (answerOf a) ⌝ }
 {
     match a {
