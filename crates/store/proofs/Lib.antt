@@ -51,3 +51,4 @@ pub mod SettleLaws
 pub mod HandedLaws
 pub mod StoredConditions
 pub mod NeededLaws
+pub mod Cases

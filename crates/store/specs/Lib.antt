@@ -21,3 +21,4 @@ pub mod Reach
 pub mod Work
 pub mod Load
 pub mod Calls
+pub mod Cases
