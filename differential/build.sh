@@ -1,6 +1,6 @@
-# Sourced by run and bench: cuts the Rust, makes the static libraries, builds the driver.
-# `source`: the checkout of the Rust. `driver`: the program that is built. `libs`: where the static libraries are.
-# FAULT: a planted fault of cut.py. OUR_LIBS: a folder that has the static libraries already.
+# Sourced by run, faults, bench and stack: cuts the Rust, makes the static library, builds the driver.
+# `source`: the checkout of the Rust. `driver`: the program that is built. `libs`: where the static library is.
+# FAULT: a planted fault of cut.py. OUR_LIBS: a folder that has libyonaduvi.a already.
 
 top=$(cd "$(dirname "${BASH_SOURCE[0]}")/.." && pwd)
 work=$top/target/differential
@@ -10,13 +10,10 @@ libs=${OUR_LIBS:-$top/target/staticlib}
 say() { echo "differential: $*" >&2; }
 die() { say "$*"; exit 2; }
 
-# The static libraries, made of the crates above.
-libraries() {
-    local name
+# The static library, made of the crates above.
+library() {
     command -v rt >/dev/null || die "no rt"
-    for name in lattice_c weights_c store_c; do
-        (cd "$top" && rt staticlib $name) >"$work/staticlib.log" 2>&1 || { cat "$work/staticlib.log"; die "rt staticlib $name failed"; }
-    done
+    (cd "$top" && rt staticlib yonaduvi) >"$work/staticlib.log" 2>&1 || { cat "$work/staticlib.log"; die "rt staticlib yonaduvi failed"; }
 }
 
 prepare() {
@@ -61,10 +58,8 @@ edition = "2024"
 num-complex = "0.4"
 PACKAGE
 
-    [ -n "${OUR_LIBS:-}" ] || libraries
-    for tool in lattice_c weights_c store_c; do
-        [ -f "$libs/lib$tool.a" ] || die "no lib$tool.a in $libs"
-    done
+    [ -n "${OUR_LIBS:-}" ] || library
+    [ -f "$libs/libyonaduvi.a" ] || die "no libyonaduvi.a in $libs"
     rm -f "$work/Cargo.lock"
     (cd "$work" && OUR_LIBS=$libs cargo build --release --offline --quiet -j "${JOBS:-1}" -p differential) || die "the driver was not built"
 }

@@ -231,7 +231,7 @@ FAULTS = {
     "turned-late": ("Transfer::transpose", r"cols\[\*at\] = r;", "cols[*at] = r + 1;"),
     "mean-of-two": ("coarse_eps", r"1\.0 / eps", "2.0 / eps"),
     "fixed-weighted": ("prolongation", r"if coarse\.fixed\(col\)", "if false"),
-    "other-map": ("level_lines", r"stretched\.across", "stretched.along"),
+    "other-map": ("setup", r"stretched\.across", "stretched.along"),
     "graddiv-order": ("Lattice::row_into", r"-s \* wg \* wd \* eps\[col\] \* inverse", "-s * wg * wd * inverse * eps[col]"),
     "sums-from-zero": ("stencil_row", r"_ => out\.push\(\(col, v\)\)", "_ => out.push((col, c64::new(0.0, 0.0) + v))"),
     "shift-first": ("stencil_row", r"(row_into\([^\n]*)((?:.|\n)*?)\n    if shift (?:.|\n)*\n    \}\n",

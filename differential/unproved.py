@@ -4,7 +4,7 @@
     unproved.py CRATES OUT [FAULT]
 
 The prover makes no library of code with a fault in it, so here the .rt files, contracts left out, are put together
-as one Rust file and compiled by rustc into libraries in OUT. Only to see that the run can fail, and to compare a layer
+as one Rust file and compiled by rustc into a library in OUT. Only to see that the run can fail, and to compare a layer
 before its proofs are there. Without FAULT the code is left as it is; each of FAULTS must hit exactly once. `--list`
 names them, and `--check CRATES` tries each of their patterns and writes nothing.
 """
@@ -103,7 +103,30 @@ let c = cs[q];
     "odd-double-counted": ("store/src/needs.rt", "n.eps <= h.eps / 2;", "n.eps <= (h.eps + 1) / 2;"),
     "one-list-kept": ("store/src/setup.rt", "    zeros::zero_three(ostarts, ocolumns, ovalues);\n", ""),
     "finest-stretches": ("store/src/scaling.rt", "volumes::volumes(own, &stretches, scaling, k)", "volumes::volumes(own, st, scaling, k)"),
-    "one-choice": ("store_c/src/lib.rt", "if n == 0 {", "if n != 1 {"),
+    "row-behind-the-last": ("store/src/handed.rt", "if n <= row {", "if n < row {"),
+    "starts-fall": ("store/src/handed.rt", "if b < a {", "if b + 1 < a {"),
+    "row-past-the-room": ("store/src/handed.rt", "if room - terms < b {", "if room - terms + 1 < b {"),
+    "part-past-the-room": ("store/src/handed.rt", "if room - terms < last {", "if room < last {"),
+    "cells-over-64": ("store/src/handed.rt", "0 < n && n <= 64", "0 < n && n <= 65"),
+    "level-0-stored": ("store/src/handed.rt", "if c.levels <= 1 {", "if c.levels <= 2 {"),
+    "turned-as-forward": ("store/src/handed.rt", "transfer_row(c, 1, tstarts, troom, level, row)", "transfer_row(c, 0, tstarts, troom, level, row)"),
+    "one-level-enough": ("store/src/handed.rt", "levels_there(c, level + 2)", "levels_there(c, level + 1)"),
+    "start-too-few": ("store/src/handed.rt", "at += n + 1;", "at += n;"),
+    "level-count-less": ("store/src/needed.rt", "levels: m + 1,", "levels: m,"),
+    "ten-levels-counted": ("store/src/needed.rt", "for q in 0..36 {", "for q in 0..30 {"),
+    "galerkin-needs": ("store/src/needed.rt", "needs::count(l, st, lines, m, choice)", "needs::count(l, st, lines, m, Choice::Galerkin)"),
+    "one-choice": ("yonaduvi/src/input.rt", "if n == 0 {", "if n != 1 {"),
+    "one-kind": ("yonaduvi/src/input.rt", "if kind == 0.0 {", "if kind != 1.0 {"),
+    "three-cells-alone": ("yonaduvi/src/input.rt", "if cells.len() < 3 {", "if cells.len() != 3 {"),
+    "other-refusal": ("yonaduvi/src/answers.rt", "Answer::TooMany => put_two(out, 5, 12)", "Answer::TooMany => put_two(out, 5, 11)"),
+    "needs-order": ("yonaduvi/src/answers.rt", "n.terms, n.terms, n.tstarts,", "n.terms, n.tstarts, n.terms,"),
+    "needs-kept": ("yonaduvi/src/answers.rt", "    lists::zeros(list);\n", ""),
+    "counts-early": ("yonaduvi/src/answers.rt", "words[q + 1] = c.cells[q];", "words[q] = c.cells[q];"),
+    "counts-read-early": ("yonaduvi/src/rows.rt", "word(counts, q + 1)", "word(counts, q)"),
+    "place-in-numbers": ("yonaduvi/src/rows.rt", "put_two(out, k * i,", "put_two(out, i,"),
+    "end-for-count": ("yonaduvi/src/rows.rt", "k * (j - i))", "k * j)"),
+    "odd-double-room": ("yonaduvi/src/lib.rt", "let room = values.len() / 2;", "let room = (values.len() + 1) / 2;"),
+    "one-turned": ("yonaduvi/src/lib.rt", "turned != 0", "turned == 1"),
 }
 
 
@@ -157,6 +180,33 @@ def inside(text, crate, above):
     return "".join(f"use crate::{name};\n" for name in above if f"use crate::{name};" not in text) + text
 
 
+def for_c(text):
+    """The functions for C with each slice as a pointer and then a length: rustc would hand it over as a struct of the two."""
+    def one(function):
+        parameters, slices = [], []
+        for part in function[2].split(","):
+            name, _, kind = (p.strip() for p in part.partition(":"))
+            found = re.fullmatch(r"&(mut )?\[(\w+)\]", kind)
+            if found:
+                lasting = "mut" if found[1] else "const"
+                parameters.append(f"{name}: *{lasting} {found[2]}, {name}_len: usize")
+                slices.append(f"    let {name} = unsafe {{ core::slice::from_raw_parts{'_mut' if found[1] else ''}({name}, {name}_len) }};\n")
+            elif name:
+                parameters.append(part)
+        return f'pub extern "C" fn {function[1]}({", ".join(parameters)})\n{{\n{"".join(slices)}'
+    return re.sub(r'pub extern "C" fn (\w+)\(([^)]*)\)\s*\{', one, text)
+
+
+def module(crates, crate, above, fault):
+    """A crate as a module."""
+    own = for_c(plain(crates, f"{crate}/src/lib.rt", fault))
+    parts = [f"pub mod {crate} {{", inside(re.sub(r"^pub mod \w+;$", "", own, flags=re.M), crate, above)]
+    for name in sorted(os.listdir(os.path.join(crates, crate, "src"))):
+        if name != "lib.rt":
+            parts.append(f"pub mod {name[:-3]} {{\n{inside(plain(crates, f'{crate}/src/{name}', fault), crate, above)}\n}}")
+    return parts + ["}"]
+
+
 def main():
     if sys.argv[1:] == ["--list"]:
         print("\n".join(FAULTS))
@@ -170,22 +220,11 @@ def main():
     fault = sys.argv[3] if len(sys.argv) == 4 else ""
     if fault and fault not in FAULTS:
         stop(f"no fault {fault}")
-    parts = ["#![allow(unused, improper_ctypes_definitions)]"]
-    # the crates of modules, then those of one file; each sees those before it
-    for crate, above in (("numbers", []), ("lattice", ["numbers"]), ("weights", ["numbers", "lattice"]), ("operators", ["numbers", "lattice", "weights"]),
-                         ("store", ["numbers", "lattice", "weights", "operators"])):
-        parts.append(f"pub mod {crate} {{")
-        own = plain(crates, f"{crate}/src/lib.rt", fault)
-        parts.append(inside(re.sub(r"^pub mod \w+;$", "", own, flags=re.M), crate, above))
-        for name in sorted(os.listdir(os.path.join(crates, crate, "src"))):
-            if name != "lib.rt":
-                text = plain(crates, f"{crate}/src/{name}", fault)
-                parts.append(f"pub mod {name[:-3]} {{\n{inside(text, crate, above)}\n}}")
-        parts.append("}")
-    for crate, above in (("lattice_c", ["numbers", "lattice"]), ("weights_c", ["numbers", "lattice", "weights", "lattice_c"]),
-                         ("store_c", ["lattice_c", "store"])):
-        text = plain(crates, f"{crate}/src/lib.rt", fault)
-        parts.append(f"pub mod {crate} {{\n{inside(text, crate, above)}\n}}")
+    parts = ["#![allow(unused)]"]
+    # each sees those before it
+    crates_in_order = ["numbers", "lattice", "weights", "operators", "store", "yonaduvi"]
+    for k, crate in enumerate(crates_in_order):
+        parts += module(crates, crate, crates_in_order[:k], fault)
     os.makedirs(out, exist_ok=True)
     with open(os.path.join(out, "unproved.rs"), "w", encoding="utf-8") as file:
         file.write("\n".join(parts))
@@ -195,11 +234,10 @@ def main():
                           cwd=out, stderr=subprocess.PIPE, text=True)
     if made.returncode != 0:
         stop("the files don't compile as Rust:\n" + made.stderr)
-    # all of it in one of the libraries that the driver links, the others empty
-    for library, members in (("liblattice_c.a", ["unproved.o"]), ("libweights_c.a", []), ("libstore_c.a", [])):
-        if os.path.exists(os.path.join(out, library)):
-            os.remove(os.path.join(out, library))
-        subprocess.run(["ar", "crs", library] + members, cwd=out, check=True)
+    library = os.path.join(out, "libyonaduvi.a")
+    if os.path.exists(library):
+        os.remove(library)
+    subprocess.run(["ar", "crs", "libyonaduvi.a", "unproved.o"], cwd=out, check=True)
 
 
 main()

@@ -1,10 +1,8 @@
-// Links the static libraries; OUR_LIBS is the folder that they are in.
+// Links the static library; OUR_LIBS is the folder that it is in.
 fn main() {
-    let folder = std::env::var("OUR_LIBS").expect("OUR_LIBS: the folder with the static libraries");
+    let folder = std::env::var("OUR_LIBS").expect("OUR_LIBS: the folder with libyonaduvi.a");
     println!("cargo:rerun-if-env-changed=OUR_LIBS");
+    println!("cargo:rerun-if-changed={folder}/libyonaduvi.a");
     println!("cargo:rustc-link-search=native={folder}");
-    for name in ["lattice_c", "weights_c", "store_c"] {
-        println!("cargo:rerun-if-changed={folder}/lib{name}.a");
-        println!("cargo:rustc-link-lib=static={name}");
-    }
+    println!("cargo:rustc-link-lib=static=yonaduvi");
 }

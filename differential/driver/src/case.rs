@@ -14,9 +14,6 @@ pub struct Case {
     pub coarsest: usize,
     // how much longer than needed each list is that is lent for results, in doubles or words
     pub room: [i64; 8],
-    // whether the rows are compared too, and the setups
-    pub rows: bool,
-    pub setups: bool,
 }
 
 impl Case {
@@ -30,13 +27,15 @@ impl Case {
             lists: [ones(nx), ones(nx), ones(ny), ones(ny), ones(nz), ones(nz), ones(3 * nx * ny * nz)],
             coarsest: 0,
             room: [0; 8],
-            rows: true,
-            setups: true,
         }
     }
 
     pub fn total(&self) -> usize {
         self.cells[0] * self.cells[1] * self.cells[2]
+    }
+
+    pub fn edges(&self) -> usize {
+        3 * self.total()
     }
 
     pub fn is_bloch(&self, axis: usize) -> bool {

@@ -1,21 +1,25 @@
-// The layers against the Rust that they were carried over from. Prints what was equal; the first departure ends the run
-// with status 1.
+// The library against the Rust that it was carried over from. Prints what was equal; the first departure ends the run with status 1.
 //
-//     differential [SEED [LATTICES]]
-//     differential bench NAME [CELLS CHOICE]
+//     differential [SEED [LATTICES [PART/PARTS]]]     every PARTSth lattice, from PART on (1 to PARTS)
+//     differential faults [SEED [LATTICES]]           few lattices, in an order that soon notices a fault; no smaller input is looked for
+//     differential bench NAME CELLS CHOICE
+//     differential stack
 
 mod bench;
 mod case;
 mod compare;
 mod generate;
+mod handed;
+mod lent;
+mod needs;
 mod norm;
 mod numbers;
 mod ours;
 mod random;
 mod shrink;
+mod stack;
 mod store;
 mod table;
-mod transfers;
 
 use case::Case;
 use compare::{Counts, compare};
@@ -25,31 +29,57 @@ use random::Random;
 struct Run {
     random: Random,
     counts: Counts,
+    // lattices met, those compared, and which are: every `parts`th, from `part` on
+    met: usize,
     lattices: u64,
+    part: usize,
+    parts: usize,
+    // whether a departure is told of a small input
+    shrinks: bool,
     // lines of the Rust alone, their cells as long as T allows
     near: norm::Departures,
 }
 
 impl Run {
+    fn own(&self) -> bool {
+        self.met % self.parts == self.part % self.parts
+    }
+
     // A lattice.
-    fn one(&mut self, part: &str, c: &Case) -> Result<(), String> {
-        self.lattices += 1;
-        self.again(part, c)
+    fn one(&mut self, name: &str, c: &Case) -> Result<(), String> {
+        self.met += 1;
+        self.lattices += self.own() as u64;
+        self.again(name, c)
     }
 
     // One input, perhaps of a lattice met before, with another `coarsest`; what departs is made small and told.
-    fn again(&mut self, part: &str, c: &Case) -> Result<(), String> {
-        if compare(c, &mut self.counts).is_ok() {
+    fn again(&mut self, name: &str, c: &Case) -> Result<(), String> {
+        if !self.own() {
             return Ok(());
         }
-        let small = shrink::smallest(c);
-        let what = compare(&small, &mut Counts::default()).err().unwrap_or_default();
-        Err(format!("{part}, lattice {}: {what}\nthe smallest input found:\n{}", self.lattices, small.text()))
+        let Err(mut what) = compare(c, &mut self.counts) else {
+            return Ok(());
+        };
+        let mut small = c.clone();
+        if self.shrinks {
+            small = shrink::smallest(c);
+            what = compare(&small, &mut Counts::default()).err().unwrap_or(what);
+        }
+        Err(format!("{name}, lattice {}: {what}\nthe smallest input found:\n{}", self.met, small.text()))
     }
 
-    // Every lattice of 1 to 4 cells an axis and every mix of kinds: plain numbers with every `coarsest` that matters,
-    // then random numbers.
-    fn small(&mut self) -> Result<(), String> {
+    // The same lattice with the other kind of `coarsest`: a single level, so that level 0's rows are there, or all levels.
+    fn other_depth(&mut self, name: &str, c: &Case) -> Result<(), String> {
+        let mut d = c.clone();
+        d.coarsest = match c.coarsest < c.edges() {
+            true => [c.edges(), usize::MAX][self.met % 2],
+            false => self.met % 2,
+        };
+        self.again(name, &d)
+    }
+
+    // Every lattice of 1 to 4 cells an axis and every mix of kinds: plain numbers with every `coarsest` that matters, then random numbers, so many times.
+    fn small(&mut self, times: usize) -> Result<(), String> {
         for q in 0..64 {
             let cells = [q % 4 + 1, q / 4 % 4 + 1, q / 16 + 1];
             for mix in 0..8 {
@@ -58,36 +88,52 @@ impl Run {
                 for axis in 0..3 {
                     c.set_kind(axis, bloch[axis]);
                 }
-                self.one("small lattices", &c)?;
-                c.rows = false;
-                for coarsest in 1..3 * c.total() + 2 {
-                    c.coarsest = coarsest;
-                    self.again("small lattices", &c)?;
-                }
-                for _ in 0..16 {
+                self.every_coarsest("small lattices", &c)?;
+                for _ in 0..times {
                     let c = generate::filled(&mut self.random, cells, bloch);
                     self.one("small lattices", &c)?;
+                    self.other_depth("small lattices", &c)?;
                 }
             }
         }
         Ok(())
     }
 
+    // A lattice with every `coarsest` that matters: 0, the greatest, and those on both sides of a change in the levels.
+    fn every_coarsest(&mut self, name: &str, c: &Case) -> Result<(), String> {
+        self.one(name, c)?;
+        let lattice = c.lattice();
+        let count = |coarsest: usize| source::level_lines(&lattice, &source::Options { coarsest }).map(|l| l.len());
+        let counts: Vec<Option<usize>> = (0..c.edges() + 2).map(count).collect();
+        let mut d = c.clone();
+        for k in (1..counts.len()).filter(|&k| counts[k] != counts[k - 1]) {
+            for coarsest in [k - 1, k] {
+                d.coarsest = coarsest;
+                self.again(name, &d)?;
+            }
+        }
+        d.coarsest = usize::MAX;
+        self.again(name, &d)
+    }
+
     fn random(&mut self, lattices: usize) -> Result<(), String> {
         for k in 0..lattices {
-            // most have at most 40 cells, some a long line, some all 4,096
+            // most have at most 40 cells, some a long line or up to 1,000 cells, some all 4,096
             let cells = match k % 500 {
                 0 => generate::large_cells(&mut self.random),
                 1 => [[16, 16, 16], [64, 64, 1], [64, 8, 8], [4, 32, 32]][k / 500 % 4],
-                2..40 => generate::cells(&mut self.random, 130),
+                2..8 => generate::cells(&mut self.random, 1000),
+                8..40 => generate::cells(&mut self.random, 130),
                 40..300 => generate::cells(&mut self.random, 40),
                 _ => generate::cells(&mut self.random, 12),
             };
             let bloch = generate::kinds(&mut self.random);
-            let mut c = generate::filled(&mut self.random, cells, bloch);
-            // the rows of every tenth large lattice
-            c.rows = k % 500 > 1 || k / 500 % 10 == 0;
+            let c = generate::filled(&mut self.random, cells, bloch);
             self.one("random lattices", &c)?;
+            // of every tenth large lattice
+            if c.total() <= 200 || k / 500 % 10 == 0 {
+                self.other_depth("random lattices", &c)?;
+            }
         }
         Ok(())
     }
@@ -113,6 +159,15 @@ impl Run {
                 self.one("refusals", &c)?;
             }
         }
+        // cells and scalars given too short, or longer than they are read
+        for length in 0..18 {
+            let mut c = plain.clone();
+            c.scalars.resize(length, 1.0);
+            self.one("refusals", &c)?;
+            c = plain.clone();
+            c.cells.resize(length / 3, 1);
+            self.one("refusals", &c)?;
+        }
         for place in 0..5 {
             for v in [0.0, -0.0, -1.0, f64::NAN, f64::INFINITY, f64::NEG_INFINITY, 5e-324, -5e-324, f64::MAX] {
                 let mut c = plain.clone();
@@ -136,15 +191,17 @@ impl Run {
             }
         }
         for cells in [[64, 64, 1], [64, 64, 2], [16, 16, 16], [17, 16, 16], [64, 1, 64], [63, 65, 1], [65, 63, 1]] {
-            let mut c = Case::plain(cells);
-            c.rows = false;
-            self.one("refusals", &c)?;
+            self.one("refusals", &Case::plain(cells))?;
         }
         for _ in 0..lattices {
             let cells = generate::cells(&mut self.random, 12);
             let bloch = generate::kinds(&mut self.random);
             let mut c = generate::filled(&mut self.random, cells, bloch);
-            for _ in 0..self.random.from_to(1, 4) {
+            // 0 is a wall, anything else Bloch
+            if self.random.once_in(4) {
+                c.scalars[5 + 3 * self.random.below(3)] = self.random.one_of(&[2.0, -1.0, 0.5, f64::NAN, f64::INFINITY, -0.0]);
+            }
+            for _ in 0..self.random.below(5) {
                 generate::spoil(&mut self.random, &mut c);
             }
             if self.random.once_in(40) {
@@ -162,7 +219,6 @@ impl Run {
                 let mut cells = [1, 1, 1];
                 cells[axis] = n;
                 let mut c = Case::plain(cells);
-                c.rows = false;
                 for m in 0..n {
                     c.set_number(2 * axis + 1, m, c64::new(1.5 * 2f64.powi(m.saturating_sub(1) as i32), 0.0));
                 }
@@ -170,23 +226,14 @@ impl Run {
                 if (n == 14 && answer != Some(12)) || (n == 15 && answer.is_some()) {
                     return Err(format!("{n} cells that double in length: {answer:?} levels"));
                 }
-                self.one("deep lines", &c)?;
-                for coarsest in (1..3 * n + 2).step_by(if n > 16 { 7 } else { 1 }) {
-                    c.coarsest = coarsest;
-                    self.again("deep lines", &c)?;
-                }
+                self.every_coarsest("deep lines", &c)?;
             }
         }
         Ok(())
     }
 
-    fn all(&mut self, lattices: usize) -> Result<(), String> {
-        let operations = numbers::check(&mut self.random, 200_000)?;
-        println!("num-complex: {operations} results are the specification's");
-        self.small()?;
-        self.deep()?;
-        self.refusals(lattices / 5)?;
-        self.random(lattices)?;
+    // The two lines on which norm and the squares part ways.
+    fn known(&mut self) -> Result<(), String> {
         let mut known = norm::Departures::default();
         for half in norm::known(&mut known)? {
             for axis in 0..3 {
@@ -203,25 +250,44 @@ impl Run {
         for text in known.shown {
             println!("  {text}");
         }
+        Ok(())
+    }
+
+    fn all(&mut self, lattices: usize) -> Result<(), String> {
+        let operations = numbers::check(&mut self.random, 200_000)?;
+        println!("num-complex: {operations} results are the specification's");
+        self.small(16)?;
+        self.deep()?;
+        self.refusals(lattices / 5)?;
+        self.random(lattices)?;
+        self.known()?;
         norm::stress(&mut self.random, 1_000_000, &mut self.near)
+    }
+
+    // The same in another order, with fewer small lattices and without the checks of the Rust alone.
+    fn faults(&mut self, lattices: usize) -> Result<(), String> {
+        self.refusals(lattices / 5)?;
+        self.random(lattices)?;
+        self.known()?;
+        self.deep()?;
+        self.small(2)
     }
 }
 
+fn by_number(r: &[u64; 9]) -> String {
+    let listed: Vec<String> = [1, 2, 3, 4, 5, 8, 6, 7].map(|n| format!("{n}: {}", r[n])).to_vec();
+    format!("{:>12}   refused, {}", r[1..].iter().sum::<u64>(), listed.join(", "))
+}
+
 fn report(lattices: u64, c: &Counts, near: &norm::Departures) {
-    println!("lattices  {lattices:>12}   with every `coarsest` tried {} inputs; {} in lists of other lengths too", c.inputs, c.other_lengths);
-    println!("refusals  {:>12}   1: {}, 2: {}, 3: {}, 4: {}, 5: {}", c.refusals.iter().sum::<u64>(),
-        c.refusals[1], c.refusals[2], c.refusals[3], c.refusals[4], c.refusals[5]);
-    println!("levels    {:>12}", c.levels);
-    println!("lines     {:>12}", c.lines);
-    println!("maps      {:>12}", c.maps);
-    println!("rows      {:>12}   as pushed; {} collected", c.rows, c.collected);
-    println!("numbers   {:>12}   {} of those in rows not finite", c.numbers, c.not_finite);
-    let t = &c.transfers;
-    println!("transfers {:>12}   {} rows, forward and turned; {} lists too short, {} with a number not finite, {} not there or refused",
-        t.transfers, t.rows, t.short, t.no_number, t.none);
-    println!("weights   {:>12}   forward and turned; {} coarse permittivities; {} of these numbers not finite",
-        t.weights, t.permittivities, t.not_finite);
+    println!("lattices  {lattices:>12}   with every `coarsest` tried {} inputs", c.inputs);
     store_report(&c.store);
+    println!("needs     {:>12}   given; {} calls in lists of other lengths too", c.needs.given, c.needs.other_lengths);
+    println!("          {}", by_number(&c.needs.refused));
+    let h = &c.handed;
+    println!("rows      {:>12}   handed back: {} forward, {} turned, {} operator; {} that aren't there",
+        h.rows.iter().sum::<u64>(), h.rows[0], h.rows[1], h.rows[2], h.none);
+    println!("          {:>12}   asked for in altered lists: {} handed back, {} not", h.altered[0] + h.altered[1], h.altered[0], h.altered[1]);
     departures("of the lines above", &c.norm);
     departures("of lines near the limit", near);
 }
@@ -231,16 +297,17 @@ fn store_report(o: &store::Counts) {
         println!("{} {:>8}   setups, {} levels; {} operator rows, {} entries", ["Galerkin     ", "rediscretized"][choice],
             o.setups[choice], o.levels[choice], o.rows[choice], o.entries[choice]);
     }
-    println!("          {} of these setups of a single level; {} Galerkin levels over stored rows, {} untouched diagonals", o.single, o.stored, o.untouched);
+    println!("          {} of these setups of a single level, with {} rows of the lattice, {} entries", o.single, o.own_rows, o.own_entries);
+    println!("          {} lines; {} transfers, {} rows of weights forward and turned, {} weights; {} coarse permittivities",
+        o.lines, o.transfers, o.weight_rows, o.weights, o.permittivities);
+    println!("          {} Galerkin levels over stored rows, {} untouched diagonals", o.stored, o.untouched);
+    println!("          {} permittivities averaged, {} volumes, {} inverse shares, {} of a zero share", o.averaged, o.volumes, o.shares, o.zero_shares);
     println!("          {} with a shift; {}, {} and {} with a Bloch axis of 1, 2 and 3 cells on some level and a phase of modulus other than 1",
         o.shifted, o.wrapped[0], o.wrapped[1], o.wrapped[2]);
-    println!("store     {:>12}   numbers and {} words of these setups; {} words and doubles looked at in all calls", o.numbers, o.words, o.looked_at);
-    println!("          {} permittivities averaged, {} volumes, {} inverse shares, {} of a zero share", o.averaged, o.volumes, o.shares, o.zero_shares);
+    println!("compared  {:>12}   numbers and {} words of these setups; {} words and doubles looked at in all calls", o.numbers, o.words, o.looked_at);
     println!("calls     {:>12}   filled: {} in lists with room, {} exactly full, {} of other lengths", o.filled.iter().sum::<u64>(),
         o.filled[0], o.filled[1], o.filled[2]);
-    let r = &o.refused;
-    println!("          {:>12}   refused, 1: {}, 2: {}, 3: {}, 4: {}, 5: {}, 8: {}, 6: {} (by list {:?}), 7: {}", r[1..].iter().sum::<u64>(),
-        r[1], r[2], r[3], r[4], r[5], r[8], r[6], o.short, r[7]);
+    println!("          {} (6 by list {:?})", by_number(&o.refused), o.short);
 }
 
 fn departures(of: &str, d: &norm::Departures) {
@@ -254,24 +321,43 @@ fn departures(of: &str, d: &norm::Departures) {
     }
 }
 
+// 1/2 and 2/2 are the halves.
+fn part_of(text: &str) -> (usize, usize) {
+    let both: Vec<usize> = text.split('/').filter_map(|n| n.parse().ok()).collect();
+    match both[..] {
+        [part, parts] if 0 < part && part <= parts => (part, parts),
+        _ => panic!("a part as 1/2"),
+    }
+}
+
+fn run(args: &[String], faults: bool) -> Result<(), String> {
+    let number = |k: usize, otherwise: u64| args.get(k).map_or(otherwise, |a| a.parse().expect("a number"));
+    let (seed, lattices) = (number(0, 1), number(1, if faults { 1000 } else { 100_000 }));
+    let (part, parts) = args.get(2).map_or((1, 1), |a| part_of(a));
+    println!("seed {seed}, {lattices} random lattices{}", if parts > 1 { format!(", part {part} of {parts}") } else { String::new() });
+    let mut run = Run {
+        random: Random::new(seed),
+        counts: Counts::default(),
+        met: 0,
+        lattices: 0,
+        part,
+        parts,
+        shrinks: !faults,
+        near: norm::Departures::default(),
+    };
+    if faults { run.faults(lattices as usize) } else { run.all(lattices as usize) }?;
+    report(run.lattices, &run.counts, &run.near);
+    println!("everything equal");
+    Ok(())
+}
+
 fn main() {
     let args: Vec<String> = std::env::args().skip(1).collect();
-    let told = if args.first().is_some_and(|a| a == "bench") {
-        match args.len() {
-            4 => bench::setup(&args[1], &args[2], &args[3]),
-            _ => bench::run(args.get(1).map_or("", |a| a.as_str())),
-        }
-    } else {
-        let number = |k: usize, otherwise: u64| args.get(k).map_or(otherwise, |a| a.parse().expect("a number"));
-        let (seed, lattices) = (number(0, 1), number(1, 100_000));
-        println!("seed {seed}, {lattices} random lattices");
-        let mut run = Run { random: Random::new(seed), counts: Counts::default(), lattices: 0, near: norm::Departures::default() };
-        let told = run.all(lattices as usize);
-        if told.is_ok() {
-            report(run.lattices, &run.counts, &run.near);
-            println!("everything equal");
-        }
-        told
+    let told = match args.first().map(|a| a.as_str()) {
+        Some("bench") => bench::run(&args[1..]),
+        Some("stack") => stack::run(),
+        Some("faults") => run(&args[1..], true),
+        _ => run(&args, false),
     };
     if let Err(text) = told {
         println!("DEPARTURE\n{text}");

@@ -23,7 +23,7 @@ pub fn target(level: usize) -> f64 {
 
 impl Departures {
     // Every line of a lattice joined both ways.
-    pub fn look_at(&mut self, maps: &Stretched, levels: &[[Line; 3]]) -> Result<(), String> {
+    pub fn look_at(&mut self, maps: &Stretched, levels: &[&[Line; 3]]) -> Result<(), String> {
         for (level, lines) in levels.iter().enumerate() {
             for (axis, line) in lines.iter().enumerate() {
                 self.line(line, &maps.across[axis], target(level))?;

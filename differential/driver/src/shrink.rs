@@ -30,9 +30,6 @@ fn simpler(c: &Case) -> Vec<Case> {
         out.push(d);
     };
     with(&|d| d.room = [0; 8]);
-    // the setups first: what a lower layer shows is told of it
-    with(&|d| d.setups = false);
-    with(&|d| d.rows = false);
     with(&|d| d.coarsest = 0);
     with(&|d| d.coarsest = 1);
     if c.scalars.len() >= 14 {
@@ -69,7 +66,7 @@ fn size(c: &Case) -> u64 {
     let plain = Case::plain([1, 1, 1]).scalars;
     let scalars = c.scalars.iter().zip(&plain).filter(|(a, b)| a.to_bits() != b.to_bits()).count() as u64;
     let room = c.room.iter().filter(|&&r| r != 0).count() as u64;
-    1000 * cells + 10 * (odd + scalars + room) + c.coarsest.min(5) as u64 + c.rows as u64 + c.setups as u64
+    1000 * cells + 10 * (odd + scalars + room) + c.coarsest.min(5) as u64
 }
 
 pub fn smallest(c: &Case) -> Case {

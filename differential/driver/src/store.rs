@@ -1,10 +1,11 @@
-// A setup of one input on both sides, Galerkin and rediscretized: the answer, and every place of the twelve lists against the Rust's levels, laid out as
-// the specification says. In lists with room, exactly full, one place short in each list in turn, and of any lengths; what lies behind a list's need,
-// and behind its end, is looked at too.
+// A setup of one input and one choice on both sides: the answer, and every place of the twelve lists against the Rust's levels, laid out as the
+// specification says. In lists with room, exactly full, one place short and of any lengths; what lies behind a list's need, and behind its end, is looked
+// at too.
 
 use crate::case::Case;
-use crate::compare::{lent, numbers_after, same, same_words, shown, words_after};
-use crate::{ours, table};
+use crate::lent::{self, lent};
+use crate::ours;
+use crate::table;
 use num_complex::Complex64 as c64;
 use source::{Coarse, Level, Multigrid};
 
@@ -28,12 +29,20 @@ pub struct Counts {
     // setups with a shift, and with a Bloch axis of 1, 2 or 3 cells on some level, its phase of a modulus other than 1
     pub shifted: u64,
     pub wrapped: [u64; 3],
-    // operator rows and their entries
+    // lines, transfers, their rows forward and turned, and the weights of these
+    pub lines: u64,
+    pub transfers: u64,
+    pub weight_rows: u64,
+    pub weights: u64,
+    // operator rows and their entries; those of level 0, straight from the lattice
     pub rows: [u64; 2],
     pub entries: [u64; 2],
+    pub own_rows: u64,
+    pub own_entries: u64,
     // Galerkin levels over stored rows, and diagonals of 1 that no term touches
     pub stored: u64,
     pub untouched: u64,
+    pub permittivities: u64,
     pub averaged: u64,
     pub volumes: u64,
     pub shares: u64,
@@ -42,12 +51,12 @@ pub struct Counts {
 
 // Rows of several levels, one part behind another.
 #[derive(Default)]
-struct Parts {
-    starts: Vec<usize>,
-    columns: Vec<usize>,
-    values: Vec<c64>,
+pub struct Parts {
+    pub starts: Vec<usize>,
+    pub columns: Vec<usize>,
+    pub values: Vec<c64>,
     // for each part its level and where its starts and its terms begin
-    begin: Vec<(usize, usize, usize)>,
+    pub begin: Vec<(usize, usize, usize)>,
 }
 
 impl Parts {
@@ -79,9 +88,9 @@ impl Parts {
 }
 
 // Words or numbers of several parts, one behind another; for each part its name and where it begins.
-struct Named<T> {
-    all: Vec<T>,
-    begin: Vec<(String, usize)>,
+pub struct Named<T> {
+    pub all: Vec<T>,
+    pub begin: Vec<(String, usize)>,
 }
 
 impl<T: Copy> Named<T> {
@@ -99,17 +108,17 @@ impl<T: Copy> Named<T> {
 }
 
 // The store. Of the twelve lists, as a setup is lent them, those of WORDS hold words, those of NUMBERS numbers.
-struct Lists {
-    ends: Named<usize>,
-    chains: Named<c64>,
-    forward: Parts,
-    turned: Parts,
-    operators: Parts,
-    scaling: Named<c64>,
+pub struct Lists {
+    pub ends: Named<usize>,
+    pub chains: Named<c64>,
+    pub forward: Parts,
+    pub turned: Parts,
+    pub operators: Parts,
+    pub scaling: Named<c64>,
 }
 
-const WORDS: [usize; 7] = [0, 2, 3, 5, 6, 8, 9];
-const NUMBERS: [usize; 5] = [1, 4, 7, 10, 11];
+pub const WORDS: [usize; 7] = [0, 2, 3, 5, 6, 8, 9];
+pub const NUMBERS: [usize; 5] = [1, 4, 7, 10, 11];
 const LISTS: [&str; 12] = [
     "line ends", "permittivities", "forward starts", "forward columns", "forward numbers", "turned starts", "turned columns", "turned numbers",
     "operator starts", "operator columns", "operator numbers", "scaling",
@@ -117,7 +126,7 @@ const LISTS: [&str; 12] = [
 
 impl Lists {
     // The store as the Rust's levels fill it.
-    fn of(levels: &[Level], rediscretized: bool) -> Lists {
+    pub fn of(levels: &[Level], rediscretized: bool) -> Lists {
         let mut l = Lists {
             ends: Named { all: Vec::new(), begin: Vec::new() },
             chains: Named { all: Vec::new(), begin: Vec::new() },
@@ -149,17 +158,17 @@ impl Lists {
         l
     }
 
-    fn words(&self) -> [&[usize]; 7] {
+    pub fn words(&self) -> [&[usize]; 7] {
         let [f, t, o] = [&self.forward, &self.turned, &self.operators];
         [&self.ends.all, &f.starts, &f.columns, &t.starts, &t.columns, &o.starts, &o.columns]
     }
 
-    fn numbers(&self) -> [&[c64]; 5] {
+    pub fn numbers(&self) -> [&[c64]; 5] {
         [&self.chains.all, &self.forward.values, &self.turned.values, &self.operators.values, &self.scaling.all]
     }
 
     // How many places each list needs.
-    fn need(&self) -> [usize; 12] {
+    pub fn need(&self) -> [usize; 12] {
         let mut need = [0; 12];
         for (k, list) in WORDS.iter().zip(self.words()) {
             need[*k] = list.len();
@@ -183,127 +192,138 @@ impl Lists {
     }
 }
 
-// What a call leaves in the lists.
-#[derive(Clone, Copy)]
-enum Left<'a> {
-    Untouched,
-    Zeros,
-    Filled(&'a Lists),
-}
-
 fn is_number(list: usize) -> bool {
     NUMBERS.contains(&list)
 }
 
 // The length of a list with so many places, in words or doubles.
-fn length(list: usize, places: usize) -> usize {
+pub fn length(list: usize, places: usize) -> usize {
     if is_number(list) { 2 * places } else { places }
 }
 
-// One call with lists of these lengths, and two words for the answer.
-fn call(c: &Case, choice: usize, lengths: [usize; 12], out: usize, answer: [usize; 2], left: Left, counts: &mut Counts) -> Result<(), String> {
+// What a call leaves in the lists.
+#[derive(Clone, Copy)]
+pub enum Left<'a> {
+    Untouched,
+    Zeros,
+    Filled(&'a Lists),
+}
+
+impl Left<'_> {
+    fn words(&self, q: usize) -> lent::Left<'_, usize> {
+        match self {
+            Left::Untouched => lent::Left::Untouched,
+            Left::Zeros => lent::Left::Zeros,
+            Left::Filled(e) => lent::Left::Given(e.words()[q]),
+        }
+    }
+
+    fn numbers(&self, q: usize) -> lent::Left<'_, c64> {
+        match self {
+            Left::Untouched => lent::Left::Untouched,
+            Left::Zeros => lent::Left::Zeros,
+            Left::Filled(e) => lent::Left::Given(e.numbers()[q]),
+        }
+    }
+}
+
+// One call with lists of these lengths, and `out` words for the answer.
+pub fn call(
+    c: &Case,
+    choice: usize,
+    lengths: [usize; 12],
+    out: usize,
+    answer: [usize; 2],
+    left: Left,
+    counts: &mut Counts,
+) -> Result<ours::Store, String> {
     let what = |list: &str| format!("{} setup, answer {answer:?}, {list}", ["Galerkin", "rediscretized"][choice.min(1)]);
-    let mut s = ours::Store {
-        out: words_after(out, &[]),
-        words: WORDS.map(|k| words_after(lengths[k], &[])),
-        doubles: NUMBERS.map(|k| numbers_after(lengths[k], &[])),
-    };
+    let mut s = ours::Store::lent(lengths, out);
     ours::setup(c, choice, &mut s);
-    same_words(&what("out"), &s.out, &words_after(out, &answer))?;
+    lent::same_words(&what("out"), &s.out, lent::Left::Given(&answer))?;
     let name = |list: usize, k: usize| match left {
         Left::Filled(e) => format!("{}, {}", LISTS[list], e.place(list, k)),
         _ => format!("{}, place {k}", LISTS[list]),
     };
     for (q, &list) in WORDS.iter().enumerate() {
-        let theirs = match left {
-            Left::Untouched => words_after(lengths[list], &[]),
-            Left::Zeros => words_after(lengths[list], &vec![0; lengths[list]]),
-            Left::Filled(e) => words_after(lengths[list], e.words()[q]),
-        };
-        let ours = &s.words[q];
-        if let Some(k) = (0..theirs.len()).find(|&k| ours[k] != theirs[k]) {
-            return Err(format!("{}: ours {}, expected {}", what(&name(list, k)), ours[k], theirs[k]));
+        if let Some((k, told)) = lent::words_depart(&s.words[q], left.words(q)) {
+            return Err(format!("{}: {told}", what(&name(list, k))));
         }
-        counts.looked_at += theirs.len() as u64;
+        counts.looked_at += s.words[q].len() as u64;
     }
     for (q, &list) in NUMBERS.iter().enumerate() {
-        let mut theirs = match left {
-            Left::Filled(e) => numbers_after(lengths[list], e.numbers()[q]),
-            _ => numbers_after(lengths[list], &[]),
-        };
-        if let Left::Zeros = left {
-            // an odd double at the end too
-            theirs[..lengths[list]].fill(0.0);
+        if let Some((k, told)) = lent::doubles_depart(&s.doubles[q], left.numbers(q)) {
+            return Err(format!("{}, {} part: {told}", what(&name(list, k / 2)), ["real", "imaginary"][k % 2]));
         }
-        let ours = &s.doubles[q];
-        if let Some(k) = (0..theirs.len()).find(|&k| !same(ours[k], theirs[k])) {
-            return Err(format!(
-                "{}, {} part: ours {}, expected {}",
-                what(&name(list, k / 2)), ["real", "imaginary"][k % 2], shown(ours[k]), shown(theirs[k])
-            ));
-        }
-        counts.looked_at += theirs.len() as u64;
+        counts.looked_at += s.doubles[q].len() as u64;
     }
     counts.refused[answer[0]] += 1;
     if answer[0] == 6 {
         counts.short[answer[1]] += 1;
     }
-    Ok(())
+    Ok(s)
 }
 
-// Both choices of one input.
-pub fn setups(c: &Case, counts: &mut Counts) -> Result<(), String> {
-    let refused = table::refusal(c, 7);
-    for rediscretized in [false, true] {
-        // whatever is not 0 is rediscretized
-        let choices = if rediscretized { [1, 2, usize::MAX] } else { [0; 3] };
-        if let Some((number, place)) = refused {
-            call(c, choices[0], [40; 12], 2, [number, place], Left::Untouched, counts)?;
-            continue;
-        }
-        let coarse = if rediscretized { Coarse::Rediscretized } else { Coarse::Galerkin };
-        let options = Multigrid { shift: c.scalars[4], coarsest: c.coarsest, coarse };
-        match source::setup(&c.lattice(), &c.numbers(6), &options) {
-            None => call(c, choices[0], [41; 12], 2, [5, 12], Left::Zeros, counts)?,
-            Some(levels) => sound(c, choices, &levels, counts)?,
-        }
+// The Rust's levels, with these permittivities; none where there are over 12.
+pub fn theirs(c: &Case, eps: &[c64], rediscretized: bool) -> Option<Vec<Level>> {
+    let coarse = if rediscretized { Coarse::Rediscretized } else { Coarse::Galerkin };
+    source::setup(&c.lattice(), eps, &Multigrid { shift: c.scalars[4], coarsest: c.coarsest, coarse })
+}
+
+// A setup that is refused before anything is counted, in lists of some length and, now and then, of another.
+pub fn refused(c: &Case, choices: [usize; 3], answer: [usize; 2], left: Left, counts: &mut Counts) -> Result<(), String> {
+    call(c, choices[0], [41; 12], 2, answer, left, counts)?;
+    if c.room != [0; 8] {
+        let lengths = std::array::from_fn(|k| lent(9, c.room[k % 8]));
+        call(c, choices[2], lengths, lent(2, c.room[6]), answer, left, counts)?;
     }
     Ok(())
 }
 
-// A setup that has levels, in lists of several lengths.
-fn sound(c: &Case, choices: [usize; 3], levels: &[Level], counts: &mut Counts) -> Result<(), String> {
-    let e = Lists::of(levels, choices[0] > 0);
+// How many lists are tried one place short, each in turn: all of a small lattice.
+fn tried_short(c: &Case) -> usize {
+    match c.total() {
+        0..=40 => 12,
+        41..=200 => 4,
+        _ => 1,
+    }
+}
+
+// A setup that has levels, in lists of several lengths. Gives back the lists exactly full, unless it is refused.
+pub fn sound(c: &Case, choices: [usize; 3], levels: &[Level], e: &Lists, counts: &mut Counts) -> Result<Option<ours::Store>, String> {
     let need = e.need();
     let (twice, no_number) = (table::twice(levels), table::no_number(levels));
     // the table's order: 8, 6, 7
-    let one = |choice: usize, lengths: [usize; 12], out: usize, counts: &mut Counts| -> Result<bool, String> {
+    let one = |choice: usize, lengths: [usize; 12], out: usize, counts: &mut Counts| -> Result<Option<ours::Store>, String> {
         let places: [usize; 12] = std::array::from_fn(|k| if is_number(k) { lengths[k] / 2 } else { lengths[k] });
         let refused = twice.map(|l| [8, l]).or(table::short(&need, &places).map(|l| [6, l])).or(no_number.map(|l| [7, l]));
-        let left = if refused.is_some() { Left::Zeros } else { Left::Filled(&e) };
-        call(c, choice, lengths, out, refused.unwrap_or([0, levels.len()]), left, counts)?;
-        Ok(refused.is_none())
+        let left = if refused.is_some() { Left::Zeros } else { Left::Filled(e) };
+        let s = call(c, choice, lengths, out, refused.unwrap_or([0, levels.len()]), left, counts)?;
+        Ok(if refused.is_none() { Some(s) } else { None })
     };
     // with room, so that wrong rows find place too, and an odd double behind
     let exact: [usize; 12] = std::array::from_fn(|k| length(k, need[k]));
-    let ample = std::array::from_fn(|k| length(k, 4 * need[k] + 1024) + k % 2);
-    let filled = one(choices[0], ample, 2, counts)?;
-    counts.filled[0] += filled as u64;
-    if filled {
-        count(c, levels, &e, choices[0].min(1), counts);
+    let ample = std::array::from_fn(|k| length(k, need[k] + need[k] / 4 + 256) + k % 2);
+    if one(choices[0], ample, 2, counts)?.is_some() {
+        counts.filled[0] += 1;
+        count(c, levels, e, choices[0].min(1), counts);
     }
-    counts.filled[1] += one(choices[1], exact, 2, counts)? as u64;
+    let full = one(choices[1], exact, 2, counts)?;
+    counts.filled[1] += full.is_some() as u64;
     // one place short: of numbers by both doubles, or by one
-    for k in (0..12).filter(|&k| need[k] > 0) {
+    let some: Vec<usize> = (0..12).filter(|&k| need[k] > 0).collect();
+    let first = c.coarsest.wrapping_add(c.scalars[0].to_bits() as usize) % some.len();
+    for q in 0..tried_short(c).min(some.len()) {
+        let k = some[(q + first) % some.len()];
         let mut lengths = exact;
         lengths[k] -= if is_number(k) { 1 + (c.coarsest + k) % 2 } else { 1 };
         one(choices[0], lengths, 2, counts)?;
     }
     if c.room != [0; 8] {
         let lengths = std::array::from_fn(|k| lent(exact[k], c.room[k % 8]));
-        counts.filled[2] += one(choices[2], lengths, lent(2, c.room[6]), counts)? as u64;
+        counts.filled[2] += one(choices[2], lengths, lent(2, c.room[6]), counts)?.is_some() as u64;
     }
-    Ok(())
+    Ok(full)
 }
 
 // What a setup's lists hold, once.
@@ -319,8 +339,18 @@ fn count(c: &Case, levels: &[Level], e: &Lists, choice: usize, counts: &mut Coun
         let met = (0..3).any(|axis| turned(axis) && levels.iter().any(|l| l.lines[axis].cells() == n));
         counts.wrapped[n - 1] += met as u64;
     }
-    counts.rows[choice] += (e.operators.starts.len() - e.operators.begin.len()) as u64;
+    let rows_of = |p: &Parts| (p.starts.len() - p.begin.len()) as u64;
+    counts.lines += 3 * levels.len() as u64;
+    counts.transfers += e.forward.begin.len() as u64;
+    counts.weight_rows += rows_of(&e.forward) + rows_of(&e.turned);
+    counts.weights += 2 * e.forward.columns.len() as u64;
+    counts.permittivities += levels.iter().skip(1).map(|l| l.eps.len() as u64).sum::<u64>();
+    counts.rows[choice] += rows_of(&e.operators);
     counts.entries[choice] += e.operators.columns.len() as u64;
+    if levels.len() == 1 {
+        counts.own_rows += rows_of(&e.operators);
+        counts.own_entries += e.operators.columns.len() as u64;
+    }
     if choice == 0 {
         counts.stored += levels.len().saturating_sub(2) as u64;
         for level in levels {
