@@ -212,9 +212,9 @@ impl Run {
         Ok(())
     }
 
-    // Lines whose cells double in length: 14 cells make 12 levels, 15 make 13, which is refused.
-    fn deep(&mut self) -> Result<(), String> {
-        for n in 4..65 {
+    // Lines of up to so many cells, which double in length: 14 cells make 12 levels, 15 make 13, which is refused.
+    fn deep(&mut self, most: usize) -> Result<(), String> {
+        for n in 4..=most {
             for axis in 0..3 {
                 let mut cells = [1, 1, 1];
                 cells[axis] = n;
@@ -257,7 +257,7 @@ impl Run {
         let operations = numbers::check(&mut self.random, 200_000)?;
         println!("num-complex: {operations} results are the specification's");
         self.small(16)?;
-        self.deep()?;
+        self.deep(64)?;
         self.refusals(lattices / 5)?;
         self.random(lattices)?;
         self.known()?;
@@ -269,8 +269,8 @@ impl Run {
         self.refusals(lattices / 5)?;
         self.random(lattices)?;
         self.known()?;
-        self.deep()?;
-        self.small(2)
+        self.deep(16)?;
+        self.small(1)
     }
 }
 
