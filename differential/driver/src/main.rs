@@ -4,6 +4,7 @@
 //     differential faults [SEED [LATTICES]]           few lattices, in an order that soon notices a fault; no smaller input is looked for
 //     differential bench NAME CELLS CHOICE
 //     differential stack
+//     differential record FOLDER                      the calls of the test program, and what they must answer
 
 mod bench;
 mod case;
@@ -16,6 +17,7 @@ mod norm;
 mod numbers;
 mod ours;
 mod random;
+mod record;
 mod shrink;
 mod stack;
 mod store;
@@ -356,6 +358,7 @@ fn main() {
     let told = match args.first().map(|a| a.as_str()) {
         Some("bench") => bench::run(&args[1..]),
         Some("stack") => stack::run(),
+        Some("record") => record::write(args.get(1).map_or(".", |a| a.as_str())),
         Some("faults") => run(&args[1..], true),
         _ => run(&args, false),
     };
