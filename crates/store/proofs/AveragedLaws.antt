@@ -1,11 +1,10 @@
 -- The averaged permittivities and the rediscretized operators, level by level.
 -- Assumes nothing.
-use Prim.Native.Nat.{ℕ, zero, suc, _+_, _-_, _*_, _≤_, _<_, _^_}
+use Prim.Native.Nat.{ℕ, zero, suc, _+_, _≤_, _<_, _^_}
 use mathlib.Core.Path.{_≡_, refl, sym, ap, subst, _∙_}
-use mathlib.Core.Bool.{Bool, true, false, cond, _&&_}
+use mathlib.Core.Bool.{Bool, _&&_}
 use mathlib.Core.List.{List}
 use native.Mathlib.Omega.{arith}
-use lib.Dec.{ltb}
 use lib.ListN.{length, getD}
 use lib.Ieee.{Float}
 use Rattle.numbers.specs.declared.C64.{C64}
@@ -15,19 +14,19 @@ use Rattle.numbers.specs.Places.{numberAt, setNumber}
 use Rattle.numbers.specs.Lists.{rows, laidNumbers, allFinite, sumTo, readFrom}
 use Rattle.numbers.specs.Terms.{Term, numbersOf, LaidRows}
 use Rattle.numbers.proofs.Equations.{readFrom-is}
-use Rattle.numbers.proofs.TabulateLaws.{length-tabulate, tabulate-at-0}
+use Rattle.numbers.proofs.TabulateLaws.{tabulate-at-0}
 use Rattle.numbers.proofs.SumLaws.{Summing, sumTo-zero, sumTo-suc, sum-most, summing-most}
 use Rattle.numbers.proofs.ListLaws.{laid-numbers-length}
 use Rattle.numbers.proofs.TransposedLaws.{laid-count}
+use Rattle.numbers.proofs.PartLaws.{laid-next, laid-zero, part-number, part-room, rows-sum, sum-rise}
 use Rattle.lattice.specs.declared.line.Line.{Line}
 use Rattle.lattice.specs.declared.levels.Three.{Three}
 use Rattle.lattice.specs.Grid.{Limits}
 use Rattle.lattice.specs.Lattice.{FullLattice}
 use Rattle.operators.specs.LevelLists.{edgesOn, rediscretizedNext, AveragedGiven, AveragedReady, AveragedLeft}
 use Rattle.operators.specs.Levels.{averagedOn, rediscretizedAt}
-use Rattle.operators.proofs.RangeLaws.{edges-few, rediscretized-few}
 use Rattle.operators.proofs.RediscretizedLevel.{averaged-next, rediscretized-next}
-use Rattle.store.specs.Layout.{blank, nextEdges, operatorCount, firstStored, storedCount, operatorOff, storedStarts, epsOff, averagedOff}
+use Rattle.store.specs.Layout.{nextEdges, operatorCount, operatorOff, storedStarts, epsOff, averagedOff}
 use Rattle.store.specs.Setup.{averagedPart}
 use Rattle.store.specs.Phases.{HasLines, threeIn, operatorPart, noted, firstOf, GivenIn, OperatorRoom, OperatorsLeft, operatorFine, AveragedRoom, averagedFine}
 use Rattle.store.specs.PhaseSteps.{behindOf, averagedFrom, AveragedPlaces, AveragedIn, AveragedLevel, RediscretizedLeft, RediscretizedDone}
@@ -35,29 +34,14 @@ use Rattle.store.specs.declared.Choice.the-variants.{Rediscretized}
 use Rattle.operators.proofs.Equations.{averagedOn-zero}
 use Rattle.store.proofs.LineLaws.{three-is}
 use Rattle.store.proofs.EndLaws.{edges-next}
-use Rattle.store.proofs.StepLaws.{partAt, sum-within, sum-rise, laid-next, laid-zero, rows-sum, part-number, stored-later, operator-count, starts-later, terms-later, operators-next, operators-long, operators-none, operator-second, startsCount}
+use Rattle.store.proofs.StepLaws.{partAt, starts-later, terms-later, operators-next, operators-long, operators-none, operator-second}
+use Rattle.store.proofs.SizeLaws.{operator-count, stored-later, averaged-long, storedRows, eps-low, ostarts-low, operator-low, operator-few, edges-few}
 
 -- ---- small numbers
 
 module _ (l : FullLattice) (limits : Limits (l .grid)) where
-  pub chain-low : (n : ℕ) → epsOff l n ≤ 12288 * n
-  chain-low n = sum-most (edgesOn l) 12288 n (λ i h. edges-few l limits i)
-
   pub averaged-low : (m L : ℕ) → m ≤ 11 → L ≤ 11 → averagedOff l m L ≤ 282624
-  averaged-low m L h k = omega (arith, chain-low (suc m), sum-most (nextEdges l) 12288 L (λ i b. edges-few l limits (suc i)))
-
-  count-few : (L : ℕ) → operatorCount l Rediscretized L ≤ 368640
-  count-few L = omega (arith, operator-count l Rediscretized blank L, rediscretized-few l limits L blank)
-
-  pub part-low : (m L : ℕ) → L ≤ 12 → (storedStarts l m L ≤ 147468) × (operatorOff l Rediscretized m L ≤ 4423680)
-  part-low m L h = (
-    omega (arith, sum-most (startsCount l m) 12289 L (λ i b. at-most (ltb i (firstStored m)) (edgesOn l i + 1) 12289 (omega (arith, edges-few l limits i)))),
-    omega (arith, sum-most (storedCount l Rediscretized m) 368640 L (λ i b. at-most (ltb i (firstStored m)) (operatorCount l Rediscretized i) 368640 (count-few i))),
-  )
-    where
-      at-most : (b : Bool) (n most : ℕ) → n ≤ most → cond b 0 n ≤ most
-      at-most true n most h = omega arith
-      at-most false n most h = h
+  averaged-low m L h k = omega (arith, eps-low l limits (suc m), sum-most (nextEdges l) 12288 L (λ i b. edges-few l limits (suc i)))
 
 -- ---- how many permittivities there are
 
@@ -72,10 +56,10 @@ module _ (l : FullLattice) (limits : Limits (l .grid)) (m L : ℕ) (h : (L < m) 
     (at : AveragedPlaces l m L from to o) {eps : List Float} (room : AveragedRoom l m eps)
     {fine coarse : Three} (p : fine ≡ threeIn lines L) (q : coarse ≡ threeIn lines (L + 1)) where
   next-room : averagedOff l m L + edgesOn l (suc L) ≤ averagedOff l m m
-  next-room = omega (arith, sum-within (nextEdges l) m L (h .0))
+  next-room = omega (arith, part-room (nextEdges l) L m (h .0))
 
   apart : (K : ℕ) → averagedFrom l m K + edgesOn l K ≤ averagedOff l m K
-  apart zero = omega (arith, sum-within (edgesOn l) (suc m) 0 (omega arith))
+  apart zero = omega (arith, part-room (edgesOn l) 0 (suc m) (omega arith))
   apart (suc K) = omega (arith, sumTo-suc (nextEdges l) K)
 
   level-given : (g : ℕ → C64) → ((r : ℕ) → r < edgesOn l L → readFrom eps from r ≡ g r) → AveragedGiven l fine coarse eps from to g L
@@ -95,14 +79,13 @@ module _ (l : FullLattice) (limits : Limits (l .grid)) (m L : ℕ) (h : (L < m) 
 
   pub level-asked : AveragedReady l fine coarse eps from to o
   level-asked =
-      let low = part-low l limits m (suc L) (omega (arith, h .0, h .1)) in
       let e = at .part-is in
       record {
         reader = readFrom eps from;
         level = L;
         given = level-given (readFrom eps from) (λ r b. refl);
-        starts-low = omega (arith, low .0, ap (λ (o : Part). o .s) e);
-        low = omega (arith, low .1, ap (λ (o : Part). o .k) e);
+        starts-low = omega (arith, h .0, h .1, ostarts-low l limits m (suc L), ap (λ (o : Part). o .s) e);
+        low = omega (arith, h .0, h .1, operator-low l limits Rediscretized m (suc L), ap (λ (o : Part). o .k) e);
       }
 
   pub level-done : {os oc : List ℕ} {ox eps′ : List Float} {os′ oc′ : List ℕ} {ox′ : List Float} {b : Bool} → AveragedLeft l fine coarse eps from to o os oc ox eps′ os′ oc′ ox′ b
@@ -130,9 +113,6 @@ module _ (l : FullLattice) (limits : Limits (l .grid)) (m L : ℕ) (h : (L < m) 
 
 -- ---- level by level
 
-pub averaged-long : (l : FullLattice) (f : ℕ → C64) (L : ℕ) → length (averagedPart l f L) ≡ nextEdges l L
-averaged-long l f L = length-tabulate (averagedOn l f (suc L)) (edgesOn l (suc L)) 0
-
 -- what was laid for level L stands there
 pub averaged-in : (l : FullLattice) (f : ℕ → C64) (m L : ℕ) → L ≤ m → {eps₀ eps : List Float} → AveragedRoom l m eps₀ → GivenIn l f eps₀
     → eps ≡ laidNumbers eps₀ (epsOff l (suc m)) (rows (averagedPart l f) L) → AveragedIn l f m L eps
@@ -149,7 +129,7 @@ averaged-in l f m (suc K) h {eps₀} {eps} room u e =
           let z : averagedOff l m K + r ≡ k + (sumTo (nextEdges l) K + r) = omega arith in
           readFrom-is eps (averagedOff l m K) r
           ∙ (λ i. numberAt (e i) (z i))
-          ∙ part-number (averagedPart l f) (nextEdges l) (averaged-long l f) eps₀ k (suc K) (omega (arith, room .room, sum-rise (nextEdges l) (suc K) m h)) K r (omega arith) b
+          ∙ part-number (averagedPart l f) (nextEdges l) (averaged-long l f) eps₀ k (suc K) (omega (arith, room .room, sum-rise (nextEdges l) (suc K) m h)) K r (k + (sumTo (nextEdges l) K + r)) noNumber refl (omega arith) b
           ∙ tabulate-at-0 (averagedOn l f (suc K)) (edgesOn l (suc K)) r noNumber b;
     }
 
@@ -210,7 +190,7 @@ module _ (l : FullLattice) (m : ℕ) {eps₀ : List Float} {os₀ oc₀ : List �
       laid-rows = d .operator (readFrom eps₀ 0) (in-eps (readFrom eps₀ 0) (record { reads = λ r h. refl }))
 
       starts-room : storedStarts l m (suc L) + edgesOn l (suc L) < length os
-      starts-room = omega (arith, starts-later l Rediscretized m L, sum-rise (startsCount l m) (suc (suc L)) (suc m) (omega arith), rooms .starts-room, averaging-long .1)
+      starts-room = omega (arith, starts-later l Rediscretized m L, sum-rise (storedRows l m) (suc (suc L)) (suc m) (omega arith), rooms .starts-room, averaging-long .1)
 
       -- the starts of the level's rows stand in the list, and their last is the count
       count-is : getD os′ (storedStarts l m (suc L) + edgesOn l (suc L)) 0 ≡ operatorCount l Rediscretized (suc L)
@@ -221,11 +201,10 @@ module _ (l : FullLattice) (m : ℕ) {eps₀ : List Float} {os₀ oc₀ : List �
 
       pub behind-asked : (o .s + n < length os′) × (o .k + getD os′ (o .s + n) 0 ≤ 2 ^ 40)
       behind-asked =
-          let low = part-low l limits m (suc L) (omega arith) in
           let long = operators-long l Rediscretized m (readFrom eps₀ 0) (suc L) (left-next (readFrom eps₀ 0) (record { reads = λ r h. refl })) in
           rw (w .places .part-is, e) (
             omega (arith, starts-room, long .0, averaging-long .1),
-            omega (arith, count-is, low .1, count-few l limits (suc L)),
+            omega (arith, count-is, operator-low l limits Rediscretized m (suc L), operator-few l limits Rediscretized (suc L)),
           )
 
       pub averaging-turn : {o′ : Part} {bad′ : ℕ} → o′ ≡ behindOf o n os′ → bad′ ≡ noted bad L b → Averaging l m eps₀ os₀ oc₀ ox₀ eps′ os′ oc′ ox′ to (to + n) o′ bad′ (L + 1)

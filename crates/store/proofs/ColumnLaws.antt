@@ -2,14 +2,13 @@
 use Prim.Native.Nat.{ℕ, suc}
 use mathlib.Core.Path.{_≡_, sym, ap, _∙_}
 use mathlib.Core.List.{List}
-use native.Mathlib.Omega.{arith}
 use lib.ListN.{length}
 use Rattle.numbers.specs.declared.C64.{C64}
 use Rattle.numbers.specs.Terms.{Term, columnsOf}
-use Rattle.numbers.specs.Lists.{startOf, In}
+use Rattle.numbers.specs.Lists.{In}
 use Rattle.numbers.specs.Transpose.{turnedColumns, turnedRow, turnedReads}
 use Rattle.numbers.proofs.SumLaws.{sum-agree}
-use Rattle.numbers.proofs.TransposedLaws.{start-same}
+use Rattle.numbers.proofs.PartLaws.{same-start}
 use Rattle.numbers.proofs.TurnedLaws.{columns-of-turned, turnedColumns-agree, turned-long as reads-long}
 use Rattle.numbers.proofs.ListLaws.{through}
 use Rattle.numbers.proofs.MemberLaws.{contains-in}
@@ -55,16 +54,12 @@ pub own-in : (l : FullLattice) (L r : ℕ) → In r (operatorCols l Galerkin L r
 unfolding operatorCols
 own-in l L r = contains-in r (columnsOf (galerkinAt l blank L r)) (own-column l blank L r)
 
--- where the rows begin
-pub same-start : (row : ℕ → List Term) (cols : ℕ → List ℕ) → ((r : ℕ) → columnsOf (row r) ≡ cols r) → (n : ℕ) → startOf row n ≡ startOf cols n
-same-start row cols h n = start-same row cols n (λ r b. h r) n (omega arith)
-
 -- a transfer has as many turned weights as forward ones
-pub turned-count : (l : FullLattice) → Limits (l .grid) → (L : ℕ) → turnedCount l L ≡ forwardCount l L
-turned-count l limits L =
+pub turned-many : (l : FullLattice) → Limits (l .grid) → (L : ℕ) → turnedCount l L ≡ forwardCount l L
+turned-many l limits L =
     sym (same-start (turnedAt l blank L) (turnedCols l L) (turned-cols-at l blank L) (edgesOn l (suc L)))
     ∙ turned-as-many l limits blank L
     ∙ same-start (forwardAt l blank L) (forwardCols l L) (forward-cols-at l blank L) (edgesOn l L)
 
 pub turned-off : (l : FullLattice) → Limits (l .grid) → (L : ℕ) → turnedOff l L ≡ forwardOff l L
-turned-off l limits L = sum-agree (turnedCount l) (forwardCount l) L (λ i b. turned-count l limits i)
+turned-off l limits L = sum-agree (turnedCount l) (forwardCount l) L (λ i b. turned-many l limits i)

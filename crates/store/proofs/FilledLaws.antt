@@ -6,7 +6,7 @@ use mathlib.Core.List.{List, _∷_, []}
 use native.Mathlib.Omega.{arith}
 use native.Mathlib.Decide.{decLt}
 use lib.Dec.{ltb}
-use lib.ListN.{length, getD, length-append, List·getD-append}
+use lib.ListN.{length, getD, List·getD-append}
 use lib.Ieee.{Float, nan}
 use lib.Seq.{getD-append-add}
 use borrow.Author.Tests.{lt-ltb, le-ltb}
@@ -20,6 +20,8 @@ use Rattle.numbers.proofs.ListLaws.{laid-length, laid-numbers-length, laid-numb
 use Rattle.numbers.proofs.StoredLaws.{start-room}
 use Rattle.numbers.proofs.SumLaws.{sumTo-zero}
 use Rattle.numbers.proofs.TabulateLaws.{length-tabulate, tabulate-at-0}
+use Rattle.numbers.proofs.PartLaws.{part-number, part-of, part-room, row-number, row-of, rows-sum}
+use Rattle.numbers.proofs.TransposedLaws.{tabulate-in}
 use Rattle.lattice.specs.Grid.{Limits}
 use Rattle.lattice.specs.Lattice.{FullLattice}
 use Rattle.operators.specs.LevelLists.{edgesOn}
@@ -37,46 +39,14 @@ use Rattle.store.specs.Setup.{endsPart, forwardStartsOf, forwardColsOf, 
 use Rattle.store.specs.Load.{given, load}
 use Rattle.store.specs.Work.{listOf}
 use Rattle.store.proofs.PlanLaws.{stands-in}
-use Rattle.store.proofs.Ranking.{counted-in}
 use Rattle.store.proofs.ColumnLaws.{forward-cols-at, turned-cols-at, operator-cols-at}
 use Rattle.store.proofs.LandedLaws.{full-has, laid-is-set-up}
 use Rattle.operators.proofs.Equations.{epsAt-zero}
-use Rattle.store.proofs.PartLaws.{part-room}
 use Rattle.store.proofs.RankLaws.{Valid, full-in}
-use Rattle.store.proofs.RowParts.{rows-sum, part-of, row-of, part-number, numbers-count, part-long, row-number}
 use Rattle.store.proofs.SetupLaws.{load-sizes, load-given}
 use Rattle.store.proofs.StoreLaws.{chain-most}
 use Rattle.store.proofs.WorkLaws.{look-list, number-double, rest-double}
-
--- ---- how long the parts are
-
-module _ (l : FullLattice) (f : ℕ → C64) where
-  pub eps-long : (i : ℕ) → length (epsPart l f i) ≡ edgesOn l i
-  eps-long i = length-tabulate (epsAt l f i) (edgesOn l i) 0
-
-  pub averaged-long : (i : ℕ) → length (averagedPart l f i) ≡ nextEdges l i
-  averaged-long i = length-tabulate (averagedOn l f (suc i)) (edgesOn l (suc i)) 0
-
-  pub forward-long : (i : ℕ) → length (forwardNumbers l f i) ≡ forwardCount l i
-  forward-long i = numbers-count (forwardAt l f i) (forwardCols l i) (forward-cols-at l f i) (edgesOn l i)
-
-  pub turned-long : (i : ℕ) → length (turnedNumbers l f i) ≡ turnedCount l i
-  turned-long i = numbers-count (turnedAt l f i) (turnedCols l i) (turned-cols-at l f i) (edgesOn l (suc i))
-
-  pub operator-long : (ch : Choice) (m i : ℕ) → length (operatorNumbers l ch m f i) ≡ storedCount l ch m i
-  operator-long ch m i =
-      part-long (ltb i (firstStored m)) (numbersOf (rows (operatorAt l ch f i) (edgesOn l i))) (operatorCount l ch i)
-      (numbers-count (operatorAt l ch f i) (operatorCols l ch i) (operator-cols-at l ch f i) (edgesOn l i))
-
-  volumes-long : (i : ℕ) → length (tabulate (volumesAt l i) (edgesOn l i) 0) ≡ edgesOn l i
-  volumes-long i = length-tabulate (volumesAt l i) (edgesOn l i) 0
-
-  shares-long : (i : ℕ) → length (tabulate (inverseSharesAt l f i) (edgesOn l (suc i)) 0) ≡ edgesOn l (suc i)
-  shares-long i = length-tabulate (inverseSharesAt l f i) (edgesOn l (suc i)) 0
-
-  pub scale-long : (i : ℕ) → length (scalePart l f i) ≡ scaleCount l i
-  scale-long i =
-      omega (arith, length-append (tabulate (volumesAt l i) (edgesOn l i) 0) (tabulate (inverseSharesAt l f i) (edgesOn l (suc i)) 0), volumes-long i, shares-long i)
+use Rattle.store.proofs.SizeLaws.{eps-long, averaged-long, fnumbers-long, tnumbers-long, onumbers-long, scale-long}
 
 -- ---- what the filled lists hold
 
@@ -99,7 +69,7 @@ module _ (l : FullLattice) (ch : Choice) (m : ℕ) (f : ℕ → C64) (b : Store)
       → numberAt (t .forwardValues) (forwardOff l L + startOf (forwardCols l L) r + j) ≡ getD (numbersOf (forwardAt l f L r)) j noNumber
   unfolding filled
   forward-number L r j h i k =
-      part-number (forwardNumbers l f) (forwardCount l) (forward-long l f) (b .forwardValues) 0 m (omega (arith, enough .forward-values)) L (startOf (forwardCols l L) r + j) _ noNumber (omega arith) h
+      part-number (forwardNumbers l f) (forwardCount l) (fnumbers-long l f) (b .forwardValues) 0 m (omega (arith, enough .forward-values)) L (startOf (forwardCols l L) r + j) _ noNumber (omega arith) h
       (omega (arith, start-room (forwardCols l L) (edgesOn l L) r i))
       ∙ row-number (forwardAt l f L) (forwardCols l L) (forward-cols-at l f L) (edgesOn l L) r j noNumber i k
 
@@ -107,7 +77,7 @@ module _ (l : FullLattice) (ch : Choice) (m : ℕ) (f : ℕ → C64) (b : Store)
       → numberAt (t .turnedValues) (turnedOff l L + startOf (turnedCols l L) r + j) ≡ getD (numbersOf (turnedAt l f L r)) j noNumber
   unfolding filled
   turned-number L r j h i k =
-      part-number (turnedNumbers l f) (turnedCount l) (turned-long l f) (b .turnedValues) 0 m (omega (arith, enough .turned-values)) L (startOf (turnedCols l L) r + j) _ noNumber (omega arith) h
+      part-number (turnedNumbers l f) (turnedCount l) (tnumbers-long l f) (b .turnedValues) 0 m (omega (arith, enough .turned-values)) L (startOf (turnedCols l L) r + j) _ noNumber (omega arith) h
       (omega (arith, start-room (turnedCols l L) (edgesOn l (suc L)) r i))
       ∙ row-number (turnedAt l f L) (turnedCols l L) (turned-cols-at l f L) (edgesOn l (suc L)) r j noNumber i k
 
@@ -118,7 +88,7 @@ module _ (l : FullLattice) (ch : Choice) (m : ℕ) (f : ℕ → C64) (b : Store)
       let z : ltb L (firstStored m) ≡ false = le-ltb L (firstStored m) first in
       let u : storedCount l ch m L ≡ operatorCount l ch L = rw z refl in
       let v : operatorNumbers l ch m f L ≡ numbersOf (rows (operatorAt l ch f L) (edgesOn l L)) = rw z refl in
-      part-number (operatorNumbers l ch m f) (storedCount l ch m) (operator-long l f ch m) (b .operatorValues) 0 (suc m) (omega (arith, enough .operator-values)) L (startOf (operatorCols l ch L) r + j) _ noNumber
+      part-number (operatorNumbers l ch m f) (storedCount l ch m) (onumbers-long l ch m f) (b .operatorValues) 0 (suc m) (omega (arith, enough .operator-values)) L (startOf (operatorCols l ch L) r + j) _ noNumber
       (omega arith) (omega arith) (omega (arith, start-room (operatorCols l ch L) (edgesOn l L) r i))
       ∙ ap (λ (vs : List C64). getD vs (startOf (operatorCols l ch L) r + j) noNumber) v
       ∙ row-number (operatorAt l ch f L) (operatorCols l ch L) (operator-cols-at l ch f L) (edgesOn l L) r j noNumber i k
@@ -143,14 +113,14 @@ module _ (l : FullLattice) (m : ℕ) (f : ℕ → C64) (b : Store) (enough : Eno
   volume-number : (L j : ℕ) → L < m → j < edgesOn l L → numberAt (t2 .scaling) (scaleOff l L + j) ≡ volumesAt l L j
   volume-number L j h i =
       scale-number L j (scaleOff l L + j) refl h (omega arith)
-      ∙ List·getD-append (tabulate (volumesAt l L) (edgesOn l L) 0) (tabulate (inverseSharesAt l f L) (edgesOn l (suc L)) 0) noNumber j (omega (arith, volumes-long l f L))
+      ∙ List·getD-append (tabulate (volumesAt l L) (edgesOn l L) 0) (tabulate (inverseSharesAt l f L) (edgesOn l (suc L)) 0) noNumber j (omega (arith, length-tabulate (volumesAt l L) (edgesOn l L) 0))
       ∙ tabulate-at-0 (volumesAt l L) (edgesOn l L) j noNumber i
 
   share-number : (L j : ℕ) → L < m → j < edgesOn l (suc L) → numberAt (t2 .scaling) (scaleOff l L + edgesOn l L + j) ≡ inverseSharesAt l f L j
   share-number L j h i =
       let vs = tabulate (volumesAt l L) (edgesOn l L) 0 in
       let ws = tabulate (inverseSharesAt l f L) (edgesOn l (suc L)) 0 in
-      let v : length vs ≡ edgesOn l L = volumes-long l f L in
+      let v : length vs ≡ edgesOn l L = length-tabulate (volumesAt l L) (edgesOn l L) 0 in
       scale-number L (length vs + j) (scaleOff l L + edgesOn l L + j) (omega arith) h (omega arith)
       ∙ getD-append-add vs ws j noNumber
       ∙ tabulate-at-0 (inverseSharesAt l f L) (edgesOn l (suc L)) j noNumber i
@@ -191,7 +161,7 @@ module _ (l : FullLattice) (ch : Choice) (m : ℕ) where
   stand : (r : Row) → Valid l ch m r → (j : ℕ) → from l ch m r ≤ j / 2 → j / 2 < from l ch m r + count l ch m r → Free (rules l ch m) (place (kindOf l ch m r) j) → ⊥
   stand r v j lo hi free =
       free (stands-in (rules l ch m) (full l ch m) r (full-has l ch m r v) (place (kindOf l ch m r) j)
-      (counted-in (place (kindOf l ch m r)) (2 * from l ch m r) (2 * count l ch m r) j (omega arith) (omega arith)))
+      (tabulate-in (place (kindOf l ch m r)) (2 * count l ch m r) (2 * from l ch m r) j (omega arith) (omega arith)))
 
   forward-beyond : (j : ℕ) → Free (rules l ch m) (forwardValuesAt j) → j < 2 * forwardOff l m → ⊥
   forward-beyond j free h =
@@ -308,17 +278,17 @@ module _ (l : FullLattice) (ch : Choice) (m : ℕ) (b : Store) (enough : Enough 
   filled-free (forwardStartsAt j) free = refl
   filled-free (forwardColumnsAt j) free = refl
   filled-free (forwardValuesAt j) free =
-      let n = rows-sum (forwardNumbers l f0) (forwardCount l) (forward-long l f0) m in
+      let n = rows-sum (forwardNumbers l f0) (forwardCount l) (fnumbers-long l f0) m in
       rest-double (b .forwardValues) 0 (rows (forwardNumbers l f0) m) j (λ lo hi. forward-beyond l ch m j free (omega arith))
   filled-free (turnedStartsAt j) free = refl
   filled-free (turnedColumnsAt j) free = refl
   filled-free (turnedValuesAt j) free =
-      let n = rows-sum (turnedNumbers l f0) (turnedCount l) (turned-long l f0) m in
+      let n = rows-sum (turnedNumbers l f0) (turnedCount l) (tnumbers-long l f0) m in
       rest-double (b .turnedValues) 0 (rows (turnedNumbers l f0) m) j (λ lo hi. turned-beyond l ch m j free (omega arith))
   filled-free (operatorStartsAt j) free = refl
   filled-free (operatorColumnsAt j) free = refl
   filled-free (operatorValuesAt j) free =
-      let n = rows-sum (operatorNumbers l ch m f0) (storedCount l ch m) (operator-long l f0 ch m) (suc m) in
+      let n = rows-sum (operatorNumbers l ch m f0) (storedCount l ch m) (onumbers-long l ch m f0) (suc m) in
       rest-double (b .operatorValues) 0 (rows (operatorNumbers l ch m f0) (suc m)) j (λ lo hi. operator-beyond l ch m j free (omega arith))
   filled-free (scalingAt j) free = scale-rest l ch m f0 (b .scaling) j free
 

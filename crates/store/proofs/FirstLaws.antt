@@ -1,7 +1,7 @@
 -- 7: the first level with a number that is not finite, as the plan's run finds it, is the first level that is not fine. Assumes nothing.
-use Prim.Native.Nat.{ℕ, zero, suc, _+_, _≤_}
+use Prim.Native.Nat.{ℕ, zero, suc, _≤_}
 use mathlib.Core.Path.{_≡_, refl, sym, ap, _∙_}
-use mathlib.Core.Logic.{_⊎_, inl, inr, ⊎-elim}
+use mathlib.Core.Logic.{inl, inr, ⊎-elim}
 use mathlib.Core.Bool.{Bool, true, false, _&&_, cond}
 use mathlib.Core.List.{List, _∷_, [], _++_}
 use mathlib.Core.Option.{Option, none, some}
@@ -19,6 +19,7 @@ use Rattle.numbers.proofs.GatheredLaws.{finite-append}
 use Rattle.numbers.proofs.ListLaws.{through, tabulate-more}
 use Rattle.numbers.proofs.MemberLaws.{in-append}
 use Rattle.numbers.proofs.Tutorial.{numbers-rows}
+use Rattle.numbers.proofs.TransposedLaws.{in-tabulate}
 use Rattle.lattice.specs.Check.{Verdict, accepted, refused, andThen}
 use Rattle.lattice.specs.Grid.{Limits}
 use Rattle.lattice.specs.Lattice.{FullLattice}
@@ -27,7 +28,6 @@ use Rattle.operators.specs.Levels.{epsAt, averagedOn, forwardAt, turnedAt, volu
 use Rattle.operators.specs.Volumes.{shareFinite, sharesFinite}
 use Rattle.operators.proofs.ShareFine.{share-fine}
 use Rattle.store.specs.Plan.{Rules, Rising, Laws, step, run, rowFine, firstBad}
-use Rattle.store.specs.Counted.{counted}
 use Rattle.store.specs.Store.{Store, sizes}
 use Rattle.store.specs.Places.{space}
 use Rattle.store.specs.Layout.{operatorAt, firstStored, Enough}
@@ -38,7 +38,6 @@ use Rattle.store.specs.Landed.{landed}
 use Rattle.store.specs.Setup.{epsPart, averagedPart, forwardNumbers, turnedNumbers, operatorNumbers, allTo, onlyFine, transferFine, levelFine}
 use Rattle.store.specs.Load.{load}
 use Rattle.store.proofs.PlanLaws.{first-fine}
-use Rattle.store.proofs.Ranking.{in-counted}
 use Rattle.store.proofs.LandedLaws.{consistent-numbers, done-consistent, done-given, coarseRows, averagedRows, forwardRows, turnedRows, volumeRows, shareRows, operatorRows, fromShare, fromVolume, fromTurned, fromForward, fromAveraged}
 use Rattle.operators.proofs.Equations.{inverseSharesAt-is, sharesFinite-zero, sharesFinite-suc}
 use Rattle.store.proofs.RangeLaws.{ranges}
@@ -96,23 +95,14 @@ all-append P (x ∷ xs) ys = ap (λ (b : Bool). P x && b) (all-append P xs ys) �
 all-before : (P : Row → Bool) (xs ys : List Row) (a b c : Bool) → allIn P xs ≡ a → allIn P ys ≡ (b && c) → allIn P (xs ++ ys) ≡ ((a && b) && c)
 all-before P xs ys a b c e f = all-append P xs ys ∙ (λ i. e i && f i) ∙ and-assoc a b c
 
--- counted rows, from the front or from the back
-counted-more : (f : ℕ → Row) (k c : ℕ) → counted f k (suc c) ≡ counted f k c ++ (f (k + c) ∷ [])
-unfolding counted
-counted-more f k zero = let z : k + 0 ≡ k = omega arith in rw z refl
-counted-more f k (suc c) =
-    let z : k + 1 + c ≡ k + suc c = omega arith in
-    ap (λ (rs : List Row). f k ∷ rs) (counted-more f (k + 1) c ∙ ap (λ (i : ℕ). counted f (k + 1) c ++ (f i ∷ [])) z)
-
 -- a test of n rows that goes row by row
 module _ (P : Row → Bool) (f : ℕ → Row) (all test : ℕ → Bool) (start : all 0 ≡ true) (next : (n : ℕ) → all (suc n) ≡ (all n && test n)) (same : (r : ℕ) → P (f r) ≡ test r) where
-  all-counted : (n : ℕ) → allIn P (counted f 0 n) ≡ all n
-  unfolding allIn counted
-  all-counted zero = sym start
-  all-counted (suc n) =
-      let z : 0 + n ≡ n = omega arith in
-      ap (allIn P) (counted-more f 0 n) ∙ all-append P (counted f 0 n) (f (0 + n) ∷ [])
-      ∙ (λ i. all-counted n i && (P (f (z i)) && true)) ∙ ap (λ (b : Bool). all n && b) (and-true (P (f n)) ∙ same n) ∙ sym (next n)
+  all-rows : (n : ℕ) → allIn P (tabulate f n 0) ≡ all n
+  unfolding allIn
+  all-rows zero = ap (allIn P) (tabulate-zero f 0) ∙ sym start
+  all-rows (suc n) =
+      ap (allIn P) (tabulate-more f n 0 n (omega arith)) ∙ all-append P (tabulate f n 0) (f n ∷ [])
+      ∙ (λ i. all-rows n i && (P (f n) && true)) ∙ ap (λ (b : Bool). all n && b) (and-true (P (f n)) ∙ same n) ∙ sym (next n)
 
 -- ---- as a row is worked out, or at the end: the same numbers
 
@@ -167,25 +157,25 @@ module _ (l : FullLattice) (ch : Choice) (f : ℕ → C64) where
   P r = allFinite (landed l ch f r)
 
   -- rows of one number
-  ones-fine : (row : ℕ → Row) (g : ℕ → C64) → ((r : ℕ) → P (row r) ≡ allFinite (g r ∷ [])) → (n : ℕ) → allIn P (counted row 0 n) ≡ allFinite (tabulate g n 0)
+  ones-fine : (row : ℕ → Row) (g : ℕ → C64) → ((r : ℕ) → P (row r) ≡ allFinite (g r ∷ [])) → (n : ℕ) → allIn P (tabulate row n 0) ≡ allFinite (tabulate g n 0)
   ones-fine row g h n =
-      all-counted P row (λ k. allFinite (tabulate g k 0)) (λ r. allFinite (g r ∷ [])) (ap allFinite (tabulate-zero g 0) ∙ allFinite-nil)
+      all-rows P row (λ k. allFinite (tabulate g k 0)) (λ r. allFinite (g r ∷ [])) (ap allFinite (tabulate-zero g 0) ∙ allFinite-nil)
       (λ k. ap allFinite (tabulate-more g k 0 k (omega arith)) ∙ finite-append (tabulate g k 0) (g k ∷ [])) h n
 
   -- rows of terms
-  terms-fine : (row : ℕ → Row) (ts : ℕ → List Term) → ((r : ℕ) → P (row r) ≡ allFinite (numbersOf (ts r))) → (n : ℕ) → allIn P (counted row 0 n) ≡ allFinite (numbersOf (rows ts n))
+  terms-fine : (row : ℕ → Row) (ts : ℕ → List Term) → ((r : ℕ) → P (row r) ≡ allFinite (numbersOf (ts r))) → (n : ℕ) → allIn P (tabulate row n 0) ≡ allFinite (numbersOf (rows ts n))
   terms-fine row ts h n =
       let vs = through numbersOf ts in
-      all-counted P row (λ k. allFinite (rows vs k)) (λ r. allFinite (vs r)) (ap allFinite (rows-zero vs) ∙ allFinite-nil)
+      all-rows P row (λ k. allFinite (rows vs k)) (λ r. allFinite (vs r)) (ap allFinite (rows-zero vs) ∙ allFinite-nil)
       (λ k. ap allFinite (rows-suc vs k) ∙ finite-append (rows vs k) (vs k)) h n
       ∙ ap allFinite (sym (numbers-rows ts n))
 
   -- a stored share is fine just where the share is too
-  shares-fine : (L n : ℕ) → allIn P (counted (share L) 0 n) ≡ sharesFinite (turnedAt l f L) (volumesAt l L) n
+  shares-fine : (L n : ℕ) → allIn P (tabulate (share L) n 0) ≡ sharesFinite (turnedAt l f L) (volumesAt l L) n
   shares-fine L n =
       let R = turnedAt l f L in
       let v = volumesAt l L in
-      all-counted P (share L) (sharesFinite R v) (shareFinite R v) (sharesFinite-zero R v) (sharesFinite-suc R v)
+      all-rows P (share L) (sharesFinite R v) (shareFinite R v) (sharesFinite-zero R v) (sharesFinite-suc R v)
       (λ c. allFinite-cons (inverseSharesAt l f L c) [] ∙ (λ i. finite (inverseSharesAt l f L c) && allFinite-nil i) ∙ and-true (finite (inverseSharesAt l f L c))
       ∙ ap (λ (g : ℕ → C64). finite (g c)) (inverseSharesAt-is l f L) ∙ sym (share-fine R v c)) n
 
@@ -194,7 +184,7 @@ module _ (l : FullLattice) (ch : Choice) (f : ℕ → C64) where
   only-fine Galerkin rs = refl
   only-fine Rediscretized rs = refl
 
-  operator-fine : (m L : ℕ) → firstStored m ≤ L → allIn P (counted (operator L) 0 (edgesOn l L)) ≡ allFinite (operatorNumbers l ch m f L)
+  operator-fine : (m L : ℕ) → firstStored m ≤ L → allIn P (tabulate (operator L) (edgesOn l L) 0) ≡ allFinite (operatorNumbers l ch m f L)
   operator-fine m L h =
       let z : ltb L (firstStored m) ≡ false = le-ltb L (firstStored m) h in
       let e : operatorNumbers l ch m f L ≡ numbersOf (rows (operatorAt l ch f L) (edgesOn l L)) = rw z refl in
@@ -215,13 +205,13 @@ module _ (l : FullLattice) (ch : Choice) (f : ℕ → C64) where
       let weights = allFinite (forwardNumbers l f L) && turns in
       all-before P (coarseRows l ch L) (fromAveraged l ch L) (allFinite (epsPart l f (suc L))) (onlyFine ch averages && weights) last (ones-fine (coarse L) (epsAt l f (suc L)) (λ r. refl) k)
       (all-before P (averagedRows l ch L) (fromForward l ch L) (onlyFine ch averages) weights last
-      (only-fine ch (counted (averaged L) 0 k) ∙ ap (onlyFine ch) (ones-fine (averaged L) (averagedOn l f (suc L)) (λ r. refl) k))
+      (only-fine ch (tabulate (averaged L) k 0) ∙ ap (onlyFine ch) (ones-fine (averaged L) (averagedOn l f (suc L)) (λ r. refl) k))
       (all-before P (forwardRows l ch L) (fromTurned l ch L) (allFinite (forwardNumbers l f L)) turns last (terms-fine (forward L) (forwardAt l f L) (λ r. refl) n)
       (all-before P (turnedRows l ch L) (fromVolume l ch L) (allFinite (turnedNumbers l f L)) scales last (terms-fine (turned L) (turnedAt l f L) (λ r. refl) k)
       (all-before P (volumeRows l ch L) (fromShare l ch L) (onlyFine ch volumes) (onlyFine ch shares) last
-      (only-fine ch (counted (volume L) 0 n) ∙ ap (onlyFine ch) (ones-fine (volume L) (volumesAt l L) (λ r. refl) n))
+      (only-fine ch (tabulate (volume L) n 0) ∙ ap (onlyFine ch) (ones-fine (volume L) (volumesAt l L) (λ r. refl) n))
       (all-append P (shareRows l ch L) (operatorRows l ch L)
-      ∙ (λ i. (only-fine ch (counted (share L) 0 k) ∙ ap (onlyFine ch) (shares-fine L k)) i && operator-fine m (suc L) h i))
+      ∙ (λ i. (only-fine ch (tabulate (share L) k 0) ∙ ap (onlyFine ch) (shares-fine L k)) i && operator-fine m (suc L) h i))
       ∙ ap (λ (b : Bool). b && last) (only-both ch volumes shares)))))
 
   -- all rows of a group are of one level
@@ -232,8 +222,8 @@ module _ (l : FullLattice) (ch : Choice) (f : ℕ → C64) where
     abbrev Of : ℕ → List Row → Type 0
     Of k rs = (r : Row) → In r rs → v r ≡ k
 
-    part-level : (g : ℕ → Row) (k n : ℕ) → ((r : ℕ) → v (g r) ≡ k) → Of k (counted g 0 n)
-    part-level g k n h r i = let t = in-counted g 0 n r i in ap v (t .3) ∙ h (t .0)
+    part-level : (g : ℕ → Row) (k n : ℕ) → ((r : ℕ) → v (g r) ≡ k) → Of k (tabulate g n 0)
+    part-level g k n h r i = let t = in-tabulate g n 0 r i in ap v (t .3) ∙ h (t .0)
 
     only-level : (c : Choice) (k : ℕ) (rs : List Row) → Of k rs → Of k (only c rs)
     only-level Galerkin k rs h r i = absurd i
@@ -248,11 +238,11 @@ module _ (l : FullLattice) (ch : Choice) (f : ℕ → C64) where
         let n = edgesOn l L in
         let K = suc L in
         split (coarseRows l ch L) (fromAveraged l ch L) K (part-level (coarse L) K k (λ r. refl))
-        (split (averagedRows l ch L) (fromForward l ch L) K (only-level ch K (counted (averaged L) 0 k) (part-level (averaged L) K k (λ r. refl)))
+        (split (averagedRows l ch L) (fromForward l ch L) K (only-level ch K (tabulate (averaged L) k 0) (part-level (averaged L) K k (λ r. refl)))
         (split (forwardRows l ch L) (fromTurned l ch L) K (part-level (forward L) K n (λ r. refl))
         (split (turnedRows l ch L) (fromVolume l ch L) K (part-level (turned L) K k (λ r. refl))
-        (split (volumeRows l ch L) (fromShare l ch L) K (only-level ch K (counted (volume L) 0 n) (part-level (volume L) K n (λ r. refl)))
-        (split (shareRows l ch L) (operatorRows l ch L) K (only-level ch K (counted (share L) 0 k) (part-level (share L) K k (λ r. refl)))
+        (split (volumeRows l ch L) (fromShare l ch L) K (only-level ch K (tabulate (volume L) n 0) (part-level (volume L) K n (λ r. refl)))
+        (split (shareRows l ch L) (operatorRows l ch L) K (only-level ch K (tabulate (share L) k 0) (part-level (share L) K k (λ r. refl)))
         (part-level (operator (suc L)) K k (λ r. refl)))))))
 
     -- one level more

@@ -1,6 +1,6 @@
 -- What the row functions of the layers below ask for holds of ANY store whose starts and columns are the lattice's, also one whose numbers were altered; and what they leave
 -- is what the store's rules say. Assumes nothing.
-use Prim.Native.Nat.{ℕ, suc, _+_, _-_, _*_, _≤_, _<_, _^_}
+use Prim.Native.Nat.{ℕ, suc, _+_, _*_, _≤_, _<_, _^_}
 use mathlib.Core.Path.{_≡_, sym, ap, subst, _∙_}
 use mathlib.Core.List.{List, _∷_, []}
 use native.Mathlib.Omega.{arith}
@@ -16,6 +16,7 @@ use Rattle.numbers.proofs.SumLaws.{sumTo-zero}
 use Rattle.numbers.proofs.LoopLaws.{start-suc, start-zero}
 use Rattle.numbers.proofs.StoredLaws.{start-room, start-at}
 use Rattle.numbers.proofs.CollectSums.{in-at}
+use Rattle.numbers.proofs.PartLaws.{row-of}
 use Rattle.lattice.specs.Grid.{Limits}
 use Rattle.lattice.specs.Lattice.{FullLattice}
 use Rattle.operators.specs.Galerkin.{galerkinRow, galerkinColumns, galerkinNumbers, rowsIn, Columned, MetAll}
@@ -40,7 +41,6 @@ use Rattle.store.proofs.LocalLaws.{operator-in-cols, turned-in-cols}
 use Rattle.store.proofs.RangeLaws.{ranges}
 use Rattle.store.proofs.SpotLaws.{each-in}
 use Rattle.store.proofs.WorkLaws.{step-laid, look-from, look-list, forward-found, turned-found}
-use Rattle.store.proofs.RowParts.{row-of}
 use Rattle.store.proofs.ColumnLaws.{operator-cols-at, forward-cols-at, turned-cols-at}
 use Rattle.operators.proofs.Equations.{fineRowsRead-is, forwardRowsRead-is, galerkinNumbers-is}
 

@@ -41,6 +41,7 @@ use Rattle.store.specs.declared.handed.Cells.{Cells}
 use Rattle.store.specs.declared.handed.Span.{Span}
 use Rattle.store.specs.declared.handed.Span.the-variants.{At, Nowhere}
 use Rattle.store.specs.Handed.{cellsIn, someCells, levelThere, edgesIn, levelsThere, startIn, termsOff, partAt, rowAt, rowsFrom, transferRow, weightTerms, firstOf, operatorRow, numbersHanded, columnsHanded, partOf, weightRowOf, operatorRowOf, CellsOf}
+use Rattle.numbers.proofs.PartLaws.{sum-rise}
 
 -- ---- tests
 
@@ -52,10 +53,6 @@ and-last false e = refl
 at-taken : (b : Bool) {s : Span} {i j : ℕ} → cond b s Nowhere ≡ At i j → (b ≡ true) × (s ≡ At i j)
 at-taken true e = (refl, e)
 at-taken false e = absurd (let z : _≡_ {A = ℕ} 0 1 = cc in omega arith)
-
--- a sum over more terms is no less
-pub sum-rises : (f : ℕ → ℕ) (q p : ℕ) → q ≤ p → sumTo f q ≤ sumTo f p
-sum-rises f q p h = let e : q + (p - q) ≡ p = omega arith in omega (arith, sum-append f q (p - q), ap (sumTo f) e)
 
 -- ---- levels
 
@@ -165,7 +162,7 @@ module _ {n : ℕ → ℕ} {ss : List ℕ} {room p : ℕ} where
     next-starts = omega (arith, u .at-is, sumTo-suc (λ i. n i + 1) q)
 
     pub passed-starts : length ss - at ≤ k → Nowhere ≡ partAt n ss room p
-    passed-starts b = part-starts n ss room p (omega (arith, next-starts, u .at-fits, sum-rises (λ i. n i + 1) (suc q) p h))
+    passed-starts b = part-starts n ss room p (omega (arith, next-starts, u .at-fits, sum-rise (λ i. n i + 1) (suc q) p h))
 
     module _ {v : ℕ} (d : v ≡ getD ss (at + k) 0) where
       next-terms : terms + v ≡ termsOff n ss (suc q)
@@ -176,7 +173,7 @@ module _ {n : ℕ → ℕ} {ss : List ℕ} {room p : ℕ} where
 
       pub passed-terms : room - terms < v → Nowhere ≡ partAt n ss room p
       unfolding termsOff
-      passed-terms b = part-terms n ss room p (omega (arith, next-terms, u .terms-fit, sum-rises (λ i. startIn n ss i (n i)) (suc q) p h))
+      passed-terms b = part-terms n ss room p (omega (arith, next-terms, u .terms-fit, sum-rise (λ i. startIn n ss i (n i)) (suc q) p h))
 
       pub passed-turn : k < length ss - at → v ≤ room - terms → Passed n ss room p (q + 1) (at + (k + 1)) (terms + v)
       passed-turn b o =
@@ -397,7 +394,7 @@ module _ (col : ℕ → ℕ → List ℕ) (n : ℕ → ℕ) where
         let part : ℕ → List ℕ = λ q. startsOf (col q) (n q) in
         let j = startsOff n q + r in
         let z : j ≡ 0 + j = omega arith in
-        let o : startsOff n q + (n q + 1) ≤ startsOff n m = omega (arith, sum-rises (λ i. n i + 1) (suc q) m h, sumTo-suc (λ i. n i + 1) q) in
+        let o : startsOff n q + (n q + 1) ≤ startsOff n m = omega (arith, sum-rise (λ i. n i + 1) (suc q) m h, sumTo-suc (λ i. n i + 1) q) in
         ap (λ (i : ℕ). getD (startsLaid col n m ss) i 0) z
         ∙ laid-at ss 0 (rows part m) j (omega (arith, parts-long m)) (omega (arith, parts-long m))
         ∙ ap (λ (i : ℕ). getD (rows part m) (i + r) 0) (sym (parts-long q))
@@ -419,9 +416,9 @@ module _ (col : ℕ → ℕ → List ℕ) (n : ℕ → ℕ) where
         let t : termsOff n ls p ≡ termsBefore col n p = terms-laid p (omega arith) in
         let k = start-suc (col p) r in
         let long : length ls ≡ length ss = laid-length ss 0 (rows (λ q. startsOf (col q) (n q)) m) in
-        let i : startsOff n p + (n p + 1) ≤ startsOff n m = omega (arith, sum-rises (λ i. n i + 1) (suc p) m o, sumTo-suc (λ i. n i + 1) p) in
+        let i : startsOff n p + (n p + 1) ≤ startsOff n m = omega (arith, sum-rise (λ i. n i + 1) (suc p) m o, sumTo-suc (λ i. n i + 1) p) in
         let j : termsBefore col n p + startOf (col p) (n p) ≤ room =
-        omega (arith, sum-rises (λ q. startOf (col q) (n q)) (suc p) m o, sumTo-suc (λ q. startOf (col q) (n q)) p)
+        omega (arith, sum-rise (λ q. startOf (col q) (n q)) (suc p) m o, sumTo-suc (λ q. startOf (col q) (n q)) p)
         in
         sym (row-is n ls room p r b (omega arith) (omega arith) (omega (arith, start-room (col p) (n p) r b)))
         ∙ (λ i. At (t i + u i) (t i + v i))
@@ -501,7 +498,7 @@ module _ {A : Type 0} (col : ℕ → ℕ → List ℕ) (vals : ℕ → ℕ → L
     row-ends : termsBefore col n p + startOf (col p) (suc r) ≤ termsBefore col n m
     row-ends =
         omega
-        (arith, sum-rises (λ q. startOf (col q) (n q)) (suc p) m h, sumTo-suc (λ q. startOf (col q) (n q)) p, start-suc (col p) r, start-room (col p) (n p) r b)
+        (arith, sum-rise (λ q. startOf (col q) (n q)) (suc p) m h, sumTo-suc (λ q. startOf (col q) (n q)) p, start-suc (col p) r, start-room (col p) (n p) r b)
 
     row-long : termsBefore col n p + startOf (col p) (suc r) ≡ termsBefore col n p + startOf (col p) r + length (vals p r)
     row-long = omega (arith, start-suc (col p) r, long p r)

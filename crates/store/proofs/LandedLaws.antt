@@ -2,7 +2,7 @@
 -- say is the one that a setup leaves. Assumes nothing.
 use Prim.Native.Nat.{ℕ, zero, suc, _+_, _-_, _*_, _/_, _%_, _≤_, _<_}
 use mathlib.Core.Path.{_≡_, refl, sym, ap, subst, _∙_}
-use mathlib.Core.Logic.{_⊎_, inl, inr, ⊎-elim}
+use mathlib.Core.Logic.{inl, inr, ⊎-elim}
 use mathlib.Core.List.{List, _∷_, _++_, []}
 use native.Mathlib.Omega.{arith}
 use native.Mathlib.Decide.{ℕ-discrete, decLt}
@@ -11,12 +11,13 @@ use borrow.Author.Tests.{eq-eqb, ne-eqb}
 use Rattle.numbers.specs.declared.C64.{C64}
 use Rattle.numbers.specs.Complex.{noNumber}
 use Rattle.numbers.specs.Terms.{Term, numbersOf}
-use Rattle.numbers.specs.Lists.{startOf, In}
+use Rattle.numbers.specs.Lists.{tabulate, startOf, In}
 use Rattle.numbers.proofs.EachLaws.{length-columns}
 use Rattle.numbers.proofs.Tutorial.{numberNo, number-place}
 use Rattle.numbers.proofs.MemberLaws.{in-left, in-right}
 use Rattle.numbers.proofs.SumLaws.{sumTo-zero}
-use Rattle.numbers.proofs.TransposedLaws.{mem-in, turned-read, WeightAt, reads-weight}
+use Rattle.numbers.proofs.TransposedLaws.{mem-in, turned-read, WeightAt, reads-weight, in-tabulate, tabulate-in}
+use Rattle.numbers.proofs.PartLaws.{same-start}
 use Rattle.lattice.specs.Grid.{Limits}
 use Rattle.lattice.specs.Lattice.{FullLattice}
 use Rattle.weights.specs.CoarseEps.{coarseEps}
@@ -34,7 +35,6 @@ use Rattle.operators.proofs.VolumeLaws.{inverse-local}
 use Rattle.operators.proofs.RangeLaws.{fine-edges}
 use Rattle.store.specs.Space.{Look}
 use Rattle.store.specs.Plan.{Holds, Consistent, Alike, Stands, run}
-use Rattle.store.specs.Counted.{counted}
 use Rattle.store.specs.Store.{Store, sizes}
 use Rattle.store.specs.Places.{Place, get, space, permittivitiesAt}
 use Rattle.store.specs.Spots.{Kind, permittivity, forwards, turneds, entries, scales, place, doubleIn, numberIn, partOf, doubleOf, laidFrom}
@@ -44,7 +44,6 @@ use Rattle.store.specs.declared.Choice.the-variants.{Galerkin, Rediscret
 use Rattle.store.specs.Rows.{Row, coarse, averaged, forward, turned, volume, share, operator, kindOf, from, count, epsIn, averagedIn, volumeIn, forwardIn, turnedIn, operatorIn, galerkinIn, operatorRule, numbers, only, group, groups, full, rules}
 use Rattle.store.specs.Landed.{landed, Given, Laid}
 use Rattle.store.proofs.PlanLaws.{in-stands, stands?, set-up-consistent, run-shape, run-keeps}
-use Rattle.store.proofs.Ranking.{counted-in, in-counted}
 use Rattle.store.proofs.SpaceLaws.{lawful}
 use Rattle.store.proofs.DressedLaws.{dressed-is}
 use Rattle.store.proofs.LocalLaws.{turned-in-cols, fine-read, forward-read}
@@ -52,13 +51,13 @@ use Rattle.store.proofs.RangeLaws.{ranges}
 use Rattle.store.proofs.RankLaws.{Ranges, Re, Valid, full-in}
 use Rattle.store.proofs.SpotLaws.{each-in}
 use Rattle.store.proofs.StoreLaws.{laws, room, base-free}
-use Rattle.store.proofs.ColumnLaws.{forward-cols-at, turned-cols-at, operator-cols-at, same-start}
+use Rattle.store.proofs.ColumnLaws.{forward-cols-at, turned-cols-at, operator-cols-at}
 use Rattle.operators.proofs.Equations.{epsAt-zero, epsAt-suc, averagedOn-zero, averagedOn-suc, forwardAt-is, turnedAt-is, volumesAt-is, inverseSharesAt-is, galerkinAt-zero, galerkinAt-suc, rediscretizedAt-is}
 
 -- ---- the rows that there are, are rows of the plan
 
-counted-has : (f : ℕ → Row) (n j : ℕ) → j < n → In (f j) (counted f 0 n)
-counted-has f n j h = counted-in f 0 n j (omega arith) (omega arith)
+tabulate-has : (f : ℕ → Row) (n j : ℕ) → j < n → In (f j) (tabulate f n 0)
+tabulate-has f n j h = tabulate-in f n 0 j (omega arith) (omega arith)
 
 only-has : (ch : Choice) (rs : List Row) (r : Row) → Re ch → In r rs → In r (only ch rs)
 only-has Galerkin rs r e i = absurd e
@@ -77,25 +76,25 @@ module _ (l : FullLattice) (ch : Choice) where
   module _ (L : ℕ) where
     -- the parts of a group, and from each part on
     abbrev pub coarseRows : List Row
-    coarseRows = counted (coarse L) 0 (edgesOn l (suc L))
+    coarseRows = tabulate (coarse L) (edgesOn l (suc L)) 0
 
     abbrev pub averagedRows : List Row
-    averagedRows = only ch (counted (averaged L) 0 (edgesOn l (suc L)))
+    averagedRows = only ch (tabulate (averaged L) (edgesOn l (suc L)) 0)
 
     abbrev pub forwardRows : List Row
-    forwardRows = counted (forward L) 0 (edgesOn l L)
+    forwardRows = tabulate (forward L) (edgesOn l L) 0
 
     abbrev pub turnedRows : List Row
-    turnedRows = counted (turned L) 0 (edgesOn l (suc L))
+    turnedRows = tabulate (turned L) (edgesOn l (suc L)) 0
 
     abbrev pub volumeRows : List Row
-    volumeRows = only ch (counted (volume L) 0 (edgesOn l L))
+    volumeRows = only ch (tabulate (volume L) (edgesOn l L) 0)
 
     abbrev pub shareRows : List Row
-    shareRows = only ch (counted (share L) 0 (edgesOn l (suc L)))
+    shareRows = only ch (tabulate (share L) (edgesOn l (suc L)) 0)
 
     abbrev pub operatorRows : List Row
-    operatorRows = counted (operator (suc L)) 0 (edgesOn l (suc L))
+    operatorRows = tabulate (operator (suc L)) (edgesOn l (suc L)) 0
 
     abbrev pub fromShare : List Row
     fromShare = shareRows ++ operatorRows
@@ -156,20 +155,20 @@ full-has l ch zero (forward L r) v = absurd (omega (arith, v .0))
 full-has l ch zero (turned L c) v = absurd (omega (arith, v .0))
 full-has l ch zero (volume L r) v = absurd (omega (arith, v .0))
 full-has l ch zero (share L c) v = absurd (omega (arith, v .0))
-full-has l ch zero (operator zero r) v = counted-has (operator 0) (edgesOn l 0) r (v .2)
+full-has l ch zero (operator zero r) v = tabulate-has (operator 0) (edgesOn l 0) r (v .2)
 full-has l ch zero (operator (suc L) r) v = absurd (omega (arith, v .1))
-full-has l ch (suc m) (coarse L r) v = groups-has l ch (suc m) L (coarse L r) (v .0) (in-1 l ch L (coarse L r) (counted-has (coarse L) (edgesOn l (suc L)) r (v .1)))
+full-has l ch (suc m) (coarse L r) v = groups-has l ch (suc m) L (coarse L r) (v .0) (in-1 l ch L (coarse L r) (tabulate-has (coarse L) (edgesOn l (suc L)) r (v .1)))
 full-has l ch (suc m) (averaged L r) v =
-    groups-has l ch (suc m) L (averaged L r) (v .0) (in-2 l ch L (averaged L r) (only-has ch (counted (averaged L) 0 (edgesOn l (suc L))) (averaged L r) (v .2) (counted-has (averaged L) (edgesOn l (suc L)) r (v .1))))
-full-has l ch (suc m) (forward L r) v = groups-has l ch (suc m) L (forward L r) (v .0) (in-3 l ch L (forward L r) (counted-has (forward L) (edgesOn l L) r (v .1)))
-full-has l ch (suc m) (turned L c) v = groups-has l ch (suc m) L (turned L c) (v .0) (in-4 l ch L (turned L c) (counted-has (turned L) (edgesOn l (suc L)) c (v .1)))
+    groups-has l ch (suc m) L (averaged L r) (v .0) (in-2 l ch L (averaged L r) (only-has ch (tabulate (averaged L) (edgesOn l (suc L)) 0) (averaged L r) (v .2) (tabulate-has (averaged L) (edgesOn l (suc L)) r (v .1))))
+full-has l ch (suc m) (forward L r) v = groups-has l ch (suc m) L (forward L r) (v .0) (in-3 l ch L (forward L r) (tabulate-has (forward L) (edgesOn l L) r (v .1)))
+full-has l ch (suc m) (turned L c) v = groups-has l ch (suc m) L (turned L c) (v .0) (in-4 l ch L (turned L c) (tabulate-has (turned L) (edgesOn l (suc L)) c (v .1)))
 full-has l ch (suc m) (volume L r) v =
-    groups-has l ch (suc m) L (volume L r) (v .0) (in-5 l ch L (volume L r) (only-has ch (counted (volume L) 0 (edgesOn l L)) (volume L r) (v .2) (counted-has (volume L) (edgesOn l L) r (v .1))))
+    groups-has l ch (suc m) L (volume L r) (v .0) (in-5 l ch L (volume L r) (only-has ch (tabulate (volume L) (edgesOn l L) 0) (volume L r) (v .2) (tabulate-has (volume L) (edgesOn l L) r (v .1))))
 full-has l ch (suc m) (share L c) v =
-    groups-has l ch (suc m) L (share L c) (v .0) (in-6 l ch L (share L c) (only-has ch (counted (share L) 0 (edgesOn l (suc L))) (share L c) (v .2) (counted-has (share L) (edgesOn l (suc L)) c (v .1))))
+    groups-has l ch (suc m) L (share L c) (v .0) (in-6 l ch L (share L c) (only-has ch (tabulate (share L) (edgesOn l (suc L)) 0) (share L c) (v .2) (tabulate-has (share L) (edgesOn l (suc L)) c (v .1))))
 full-has l ch (suc m) (operator zero r) v = absurd (omega (arith, v .0))
 full-has l ch (suc m) (operator (suc L) r) v =
-    groups-has l ch (suc m) L (operator (suc L) r) (v .1) (in-7 l ch L (operator (suc L) r) (counted-has (operator (suc L)) (edgesOn l (suc L)) r (v .2)))
+    groups-has l ch (suc m) L (operator (suc L) r) (v .1) (in-7 l ch L (operator (suc L) r) (tabulate-has (operator (suc L)) (edgesOn l (suc L)) r (v .2)))
 
 -- ---- a row that holds, by numbers
 
@@ -203,8 +202,8 @@ module _ (l : FullLattice) (ch : Choice) (m : ℕ) (s : Store) where
       let k = kindOf l ch m r in
       let a = from l ch m r in
       let vs = numbers l ch m (get s) r in
-      let x = h (place k (2 * (a + q))) (counted-in (place k) (2 * a) (2 * count l ch m r) (2 * (a + q)) (omega arith) (omega arith)) in
-      let y = h (place k (2 * (a + q) + 1)) (counted-in (place k) (2 * a) (2 * count l ch m r) (2 * (a + q) + 1) (omega arith) (omega arith)) in
+      let x = h (place k (2 * (a + q))) (tabulate-in (place k) (2 * count l ch m r) (2 * a) (2 * (a + q)) (omega arith) (omega arith)) in
+      let y = h (place k (2 * (a + q) + 1)) (tabulate-in (place k) (2 * count l ch m r) (2 * a) (2 * (a + q) + 1) (omega arith) (omega arith)) in
       let u = double-laid (get s) k vs a (2 * (a + q)) x ∙ even-of vs a q in
       let v = double-laid (get s) k vs a (2 * (a + q) + 1) y ∙ odd-of vs a q in
       λ i. record { re = u i; im = v i }
@@ -396,7 +395,7 @@ module _ (l : FullLattice) (ch : Choice) (m : ℕ) (limits : Limits (l .grid)) w
       let a = in-stands (rules l ch m) (full l ch m) p i in
       let r = a .0 in
       let k = kindOf l ch m r in
-      let b = in-counted (place k) (2 * from l ch m r) (2 * count l ch m r) p (a .2) in
+      let b = in-tabulate (place k) (2 * count l ch m r) (2 * from l ch m r) p (a .2) in
       let j = b .0 in
       let q = j / 2 - from l ch m r in
       let low : q < count l ch m r = omega (arith, b .1, b .2) in

@@ -8,11 +8,9 @@ pub mod PlanWork
 pub mod ListTheorem
 pub mod Search
 pub mod SpotLaws
-pub mod PartLaws
 pub mod DressedLaws
 pub mod ColumnLaws
 pub mod RankLaws
-pub mod RowParts
 pub mod LocalLaws
 pub mod StoreLaws
 pub mod RangeLaws
@@ -35,7 +33,6 @@ pub mod SmallLaws
 pub mod LineLaws
 pub mod EndLaws
 pub mod CodeLaws
-pub mod ListParts
 pub mod SizeLaws
 pub mod StepLaws
 pub mod SoleLaws

@@ -8,7 +8,7 @@ use Rattle.numbers.specs.Terms.{Term, columnsOf, numbersOf}
 use Rattle.numbers.specs.Lists.{each, startOf, In}
 use Rattle.numbers.specs.Transpose.{turnedReads}
 use Rattle.numbers.proofs.MemberLaws.{in-left, in-right}
-use Rattle.numbers.proofs.TransposedLaws.{mem-in, map-same}
+use Rattle.numbers.proofs.TransposedLaws.{mem-in, map-same, tabulate-in}
 use Rattle.lattice.specs.Lattice.{FullLattice}
 use Rattle.weights.specs.CoarseEps.{epsReads}
 use Rattle.weights.specs.Prolongation.{weightReads, weightColumns}
@@ -30,7 +30,6 @@ use Rattle.store.specs.Layout.{forwardCols, turnedCols, operatorCols, fo
 use Rattle.store.specs.declared.Choice.{Choice}
 use Rattle.store.specs.declared.Choice.the-variants.{Galerkin, Rediscretized}
 use Rattle.store.specs.Rows.{Row, coarse, averaged, forward, turned, volume, share, operator, storedIn, rowSpots, epsSpot, averagedSpot, epsIn, averagedIn, volumeIn, forwardIn, turnedIn, operatorIn, epsSpots, forwardSpots, turnedSpots, operatorSpots, operatorRule, operatorReading, numbers, reading}
-use Rattle.store.proofs.Ranking.{counted-in}
 use Rattle.store.proofs.DressedLaws.{columns-dressed, dressed-same}
 use Rattle.store.proofs.SpotLaws.{Agrees, map-in, in-each}
 use Rattle.store.proofs.ColumnLaws.{operator-cols-at}
@@ -42,7 +41,7 @@ use Rattle.operators.proofs.Equations.{galerkinAt-zero, fineRowsRead-is, forwar
 stored-local : (f g : Look space) (k : Kind) (cols : ℕ → List ℕ) (off r : ℕ) → Agrees f g (rowSpots k cols off r) → storedIn f k cols off r ≡ storedIn g k cols off r
 stored-local f g k cols off r h =
     dressed-same (cols r) (numberIn f k) (numberIn g k) (off + startOf cols r)
-    (λ q a b. h k q (counted-in (spot k) (off + startOf cols r) (length (cols r)) q a b))
+    (λ q a b. h k q (tabulate-in (spot k) (length (cols r)) (off + startOf cols r) q a b))
 
 module _ (l : FullLattice) (ch : Choice) (m : ℕ) (f g : Look space) where
   stencil-look : (r : ℕ) → Agrees f g (epsSpots l ch m 0 (stencilReads l r)) → stencilRow l (epsIn l ch m f 0) r ≡ stencilRow l (epsIn l ch m g 0) r

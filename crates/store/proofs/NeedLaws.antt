@@ -11,6 +11,7 @@ use lib.ListN.{length, getD, length-replicate}
 use borrow.Author.Tests.{eq-eqb, ne-eqb, lt-ltb, le-ltb}
 use Rattle.numbers.specs.Lists.{startOf, sumTo, someRepeats}
 use Rattle.numbers.proofs.SumLaws.{sumTo-zero, sumTo-suc, sum-agree, sum-most, Summing, summing-start, summing-turn, summing-end, summing-most}
+use Rattle.numbers.proofs.PartLaws.{sum-first}
 use Rattle.lattice.specs.declared.grid.Grid3d.{Grid3d}
 use Rattle.lattice.specs.declared.line.Line.{Line}
 use Rattle.lattice.specs.declared.levels.Three.{Three}
@@ -38,7 +39,6 @@ use Rattle.store.specs.FillSteps.{Relations, coarseTerms, onlyCount, nee
 use Rattle.store.specs.declared.Choice.{Choice}
 use Rattle.store.specs.declared.Choice.the-variants.{Galerkin, Rediscretized}
 use Rattle.store.proofs.LineLaws.{both-lines, lines-two}
-use Rattle.store.proofs.ListParts.{sum-first}
 use Rattle.store.proofs.SizeLaws.{operator-count, operator-few, edges-few}
 
 -- a sum with the next term is small

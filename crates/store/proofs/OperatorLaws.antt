@@ -2,22 +2,18 @@
 -- Assumes nothing.
 use Prim.Native.Nat.{ℕ, zero, suc, _+_, _*_, _≤_, _<_, _^_}
 use mathlib.Core.Path.{_≡_, refl, sym, ap, _∙_}
-use mathlib.Core.Bool.{Bool, false}
-use mathlib.Core.List.{List, [], _++_}
+use mathlib.Core.Bool.{Bool}
+use mathlib.Core.List.{List}
 use native.Mathlib.Omega.{arith}
-use lib.Dec.{ltb}
-use lib.ListN.{length, getD, set}
+use lib.ListN.{length, getD}
 use lib.Ieee.{Float}
-use borrow.Author.Tests.{le-ltb}
 use Rattle.numbers.specs.declared.C64.{C64}
 use Rattle.numbers.specs.declared.terms.Part.{Part}
-use Rattle.numbers.specs.Places.{numberAt, setNumber}
-use Rattle.numbers.specs.Lists.{rows, laid, laidNumbers, allFinite, startOf, startsOf}
-use Rattle.numbers.specs.Terms.{columnsOf, numbersOf, LaidRows, Room}
-use Rattle.numbers.proofs.Equations.{rows-zero, rows-suc, readFrom-is, laidBy-nil}
-use Rattle.numbers.proofs.ListLaws.{laid-length, laid-numbers-length}
-use Rattle.numbers.proofs.SumLaws.{sumTo-zero, sumTo-suc}
-use Rattle.numbers.proofs.TransposedLaws.{starts-same, columns-same}
+use Rattle.numbers.specs.Places.{numberAt}
+use Rattle.numbers.specs.Lists.{allFinite, startOf}
+use Rattle.numbers.specs.Terms.{LaidRows, Room}
+use Rattle.numbers.proofs.Equations.{readFrom-is}
+use Rattle.numbers.proofs.PartLaws.{part-room}
 use Rattle.lattice.specs.declared.grid.Grid3d.{Grid3d}
 use Rattle.lattice.specs.Grid.{Limits}
 use Rattle.lattice.specs.Lattice.{FullLattice}
@@ -26,86 +22,16 @@ use Rattle.operators.specs.declared.galerkin.FineRows.the-variants.{Computed, S
 use Rattle.operators.specs.LevelLists.{edgesOn, OperatorIn, OperatorBefore, OperatorGiven, LevelGiven, LevelReady, LevelLeft}
 use Rattle.operators.specs.Levels.{gridAt, galerkinAt}
 use Rattle.operators.proofs.LevelListLaws.{operator-in}
-use Rattle.store.specs.Layout.{operatorCols, operatorCount, firstStored, storedCount, operatorOff, storedStarts, forwardCount}
+use Rattle.store.specs.Layout.{operatorCount, storedCount, operatorOff, storedStarts, forwardCount}
 use Rattle.store.specs.Setup.{operatorStartsOf, operatorColsOf, operatorNumbers}
 use Rattle.store.specs.Phases.{forwardPart, turnedPart, operatorPart, noted, firstOf, OperatorRoom, OperatorsLeft, operatorFine}
 use Rattle.store.specs.FillSteps.{offsetsAt, Relations, TransfersBy, OperatorsReady, OperatorsDone}
 use Rattle.store.specs.declared.Choice.the-variants.{Galerkin}
 use Rattle.store.specs.declared.transfers.Offsets.{Offsets}
-use Rattle.store.proofs.ListParts.{part-room, laid-next}
 use Rattle.store.proofs.SeamLaws.{part-laid, part-space}
 use Rattle.store.proofs.TransferLaws.{forwardFrom, turnedFrom}
-use Rattle.store.proofs.SizeLaws.{storedRows, operator-columns, operator-count, ostarts-long, ocols-long, onumbers-long, edges-few, operator-few, ostarts-low, operator-low, forward-count}
-
--- ---- the part of a level below the finest, which is stored
-
-later-stored : (m L : ℕ) → ltb (suc L) (firstStored m) ≡ false
-later-stored zero L = le-ltb (suc L) 0 (omega arith)
-later-stored (suc m) L = le-ltb (suc L) 1 (omega arith)
-
-module _ (l : FullLattice) (m L : ℕ) where
-  rows-later : storedRows l Galerkin m (suc L) ≡ edgesOn l (suc L) + 1
-  rows-later = rw (later-stored m L) refl
-
-  count-later : storedCount l Galerkin m (suc L) ≡ operatorCount l Galerkin (suc L)
-  count-later = rw (later-stored m L) refl
-
-  starts-later : storedStarts l m (suc (suc L)) ≡ storedStarts l m (suc L) + (edgesOn l (suc L) + 1)
-  starts-later = sumTo-suc (storedRows l Galerkin m) (suc L) ∙ ap (λ (k : ℕ). storedStarts l m (suc L) + k) rows-later
-
-  terms-later : operatorOff l Galerkin m (suc (suc L)) ≡ operatorOff l Galerkin m (suc L) + operatorCount l Galerkin (suc L)
-  terms-later = sumTo-suc (storedCount l Galerkin m) (suc L) ∙ ap (λ (k : ℕ). operatorOff l Galerkin m (suc L) + k) count-later
-
-  module _ (f : ℕ → C64) where
-    starts-part : operatorStartsOf l Galerkin m (suc L) ≡ startsOf (galerkinAt l f (suc L)) (edgesOn l (suc L))
-    starts-part =
-        rw (later-stored m L) (sym (starts-same (galerkinAt l f (suc L)) (operatorCols l Galerkin (suc L)) (edgesOn l (suc L)) (λ r h. operator-columns l Galerkin f (suc L) r)))
-
-    columns-part : operatorColsOf l Galerkin m (suc L) ≡ columnsOf (rows (galerkinAt l f (suc L)) (edgesOn l (suc L)))
-    columns-part =
-        rw (later-stored m L) (sym (columns-same (galerkinAt l f (suc L)) (operatorCols l Galerkin (suc L)) (edgesOn l (suc L)) (λ r h. operator-columns l Galerkin f (suc L) r)))
-
-    numbers-part : operatorNumbers l Galerkin m f (suc L) ≡ numbersOf (rows (galerkinAt l f (suc L)) (edgesOn l (suc L)))
-    numbers-part = rw (later-stored m L) refl
-
--- ---- level by level
-
-module _ (l : FullLattice) (f : ℕ → C64) (m : ℕ) where
-  -- level 0 is not stored where there is another
-  pub operators-start : 0 < m → {os oc : List ℕ} {ox : List Float} → OperatorsLeft l Galerkin f m 0 os oc ox os oc ox
-  operators-start some {os} {oc} {ox} = go m some
-    where
-      none : {A : Type 0} (g : ℕ → List A) → g 0 ≡ [] → rows g 1 ≡ []
-      none {A} g e = rows-suc g 0 ∙ (λ i. rows-zero g i ++ e i)
-
-      go : (m : ℕ) → 0 < m → OperatorsLeft l Galerkin f m 0 os oc ox os oc ox
-      go zero h = absurd (omega arith)
-      go (suc m) h =
-          record {
-            starts-are = sym (ap (laid os 0) (none (operatorStartsOf l Galerkin (suc m)) refl) ∙ laidBy-nil set os 0);
-            columns-are = sym (ap (laid oc 0) (none (operatorColsOf l Galerkin (suc m)) refl) ∙ laidBy-nil set oc 0);
-            values-are = sym (ap (laidNumbers ox 0) (none (operatorNumbers l Galerkin (suc m) f) refl) ∙ laidBy-nil setNumber ox 0);
-          }
-
-  module _ {L : ℕ} {os₀ oc₀ : List ℕ} {ox₀ : List Float} {os oc : List ℕ} {ox : List Float} (u : OperatorsLeft l Galerkin f m L os₀ oc₀ ox₀ os oc ox) where
-    pub operators-turn : {os′ oc′ : List ℕ} {ox′ : List Float}
-        → LaidRows (galerkinAt l f (suc L)) (edgesOn l (suc L)) os (storedStarts l m (suc L)) oc ox (operatorOff l Galerkin m (suc L)) os′ oc′ ox′
-        → OperatorsLeft l Galerkin f m (suc L) os₀ oc₀ ox₀ os′ oc′ ox′
-    operators-turn w =
-        let s = storedStarts l m (suc L) in
-        let k = operatorOff l Galerkin m (suc L) in
-        record {
-          starts-are = laid-next set os₀ (operatorStartsOf l Galerkin m) (storedRows l Galerkin m) (ostarts-long l Galerkin m) (suc L) (u .starts-are) (w .starts-are ∙ ap (laid os s) (sym (starts-part l m L f)));
-          columns-are = laid-next set oc₀ (operatorColsOf l Galerkin m) (storedCount l Galerkin m) (ocols-long l Galerkin m) (suc L) (u .columns-are) (w .columns-are ∙ ap (laid oc k) (sym (columns-part l m L f)));
-          values-are = laid-next setNumber ox₀ (operatorNumbers l Galerkin m f) (storedCount l Galerkin m) (onumbers-long l Galerkin m f) (suc L) (u .values-are) (w .numbers-are ∙ ap (laidNumbers ox k) (sym (numbers-part l m L f)));
-        }
-
-    pub operators-long : (length os ≡ length os₀) × (length oc ≡ length oc₀) × (length ox ≡ length ox₀)
-    operators-long = (
-      ap length (u .starts-are) ∙ laid-length os₀ 0 (rows (operatorStartsOf l Galerkin m) (suc L)),
-      ap length (u .columns-are) ∙ laid-length oc₀ 0 (rows (operatorColsOf l Galerkin m) (suc L)),
-      ap length (u .values-are) ∙ laid-numbers-length ox₀ 0 (rows (operatorNumbers l Galerkin m f) (suc L)),
-    )
+use Rattle.store.proofs.SizeLaws.{storedRows, operator-count, ostarts-long, ocols-long, onumbers-long, edges-few, operator-few, ostarts-low, operator-low, forward-count, stored-later, rows-stored, count-stored, starts-stored, columns-stored, numbers-stored}
+use Rattle.store.proofs.StepLaws.{partAt, starts-later, terms-later, operators-next, operators-long, operators-none, operator-second}
 
 -- ---- the seam: the last operator that was laid stands in the lists as the next level asks for it
 
@@ -114,10 +40,10 @@ module _ (l : FullLattice) (limits : Limits (l .grid)) (m : ℕ) (deep : m ≤ 1
       → Room os (storedStarts l m (suc L)) oc ox (operatorOff l Galerkin m (suc L)) (startOf (galerkinAt l f (suc L)) (edgesOn l (suc L))) (edgesOn l (suc L))
   next-room f room =
       let n = operator-count l Galerkin f (suc L) in
-      let a = part-room (storedRows l Galerkin m) (suc L) (suc m) (omega arith) in
+      let a = part-room (storedRows l m) (suc L) (suc m) (omega arith) in
       let b = part-room (storedCount l Galerkin m) (suc L) (suc m) (omega arith) in
-      let p = rows-later l m L in
-      let q = count-later l m L in
+      let p = rows-stored l m (suc L) (stored-later m L) in
+      let q = count-stored l m (suc L) (stored-later m L) Galerkin in
       record {
         starts-room = omega (arith, room .starts-room);
         columns-room = omega (arith, room .columns-room);
@@ -133,13 +59,13 @@ module _ (l : FullLattice) (limits : Limits (l .grid)) (m : ℕ) (deep : m ≤ 1
       let CC = operatorColsOf l Galerkin m in
       let XX = operatorNumbers l Galerkin m f in
       let n = edgesOn l (suc L) in
-      let terms = count-later l m L ∙ sym (operator-count l Galerkin f (suc L)) in
+      let terms = count-stored l m (suc L) (stored-later m L) Galerkin ∙ sym (operator-count l Galerkin f (suc L)) in
       rw (left .starts-are, left .columns-are, left .values-are)
       (operator-in l limits f (suc L) (operatorPart l Galerkin m (suc L))
-      (part-laid SS CC XX (storedRows l Galerkin m) (storedCount l Galerkin m) (ostarts-long l Galerkin m) (ocols-long l Galerkin m) (onumbers-long l Galerkin m f) os₀ oc₀ ox₀ (suc L)
-      (galerkinAt l f (suc L)) n (starts-part l m L f) (columns-part l m L f) (numbers-part l m L f) (rows-later l m L) terms)
-      (part-space SS CC XX (storedRows l Galerkin m) (storedCount l Galerkin m) (ostarts-long l Galerkin m) (ocols-long l Galerkin m) (onumbers-long l Galerkin m f) os₀ oc₀ ox₀ (suc L)
-      (galerkinAt l f (suc L)) n (starts-part l m L f) (columns-part l m L f) (numbers-part l m L f) (rows-later l m L) terms
+      (part-laid SS CC XX (storedRows l m) (storedCount l Galerkin m) (ostarts-long l Galerkin m) (ocols-long l Galerkin m) (onumbers-long l Galerkin m f) os₀ oc₀ ox₀ (suc L)
+      (galerkinAt l f (suc L)) n (starts-stored l m (suc L) (stored-later m L) Galerkin f) (columns-stored l m (suc L) (stored-later m L) Galerkin f) (numbers-stored l m (suc L) (stored-later m L) Galerkin f) (rows-stored l m (suc L) (stored-later m L)) terms)
+      (part-space SS CC XX (storedRows l m) (storedCount l Galerkin m) (ostarts-long l Galerkin m) (ocols-long l Galerkin m) (onumbers-long l Galerkin m f) os₀ oc₀ ox₀ (suc L)
+      (galerkinAt l f (suc L)) n (starts-stored l m (suc L) (stored-later m L) Galerkin f) (columns-stored l m (suc L) (stored-later m L) Galerkin f) (numbers-stored l m (suc L) (stored-later m L) Galerkin f) (rows-stored l m (suc L) (stored-later m L)) terms
       (suc m) (omega arith) (room .starts-room) (room .columns-room) (room .values-room) (omega (arith, ostarts-low l limits m (suc L))) (omega (arith, operator-low l limits Galerkin m (suc L)))))
 
   -- the starts of its rows stand in the list, the last of them is the count
@@ -158,13 +84,10 @@ module _ (l : FullLattice) (limits : Limits (l .grid)) (m : ℕ) {L : ℕ} (h : 
 
   pub part-next : {w : ℕ} → w ≡ operatorCount l Galerkin (suc L) → record { s = q .s + n + 1; k = q .k + w } ≡ operatorPart l Galerkin m (suc (suc L))
   part-next {w} ew =
-      let a : storedStarts l m (suc L) + edgesOn l (suc L) + 1 ≡ storedStarts l m (suc (suc L)) = omega (arith, starts-later l m L) in
+      let a : storedStarts l m (suc L) + edgesOn l (suc L) + 1 ≡ storedStarts l m (suc (suc L)) = omega (arith, starts-later l Galerkin m L) in
       let p : partAt (q .s + n + 1) (q .k + w) ≡ partAt (storedStarts l m (suc L) + edgesOn l (suc L) + 1) (operatorOff l Galerkin m (suc L) + operatorCount l Galerkin (suc L)) =
       λ i. partAt (e i .s + en i + 1) (e i .k + ew i) in
-      p ∙ (λ i. partAt (a i) (sym (terms-later l m L) i))
-    where
-      partAt : ℕ → ℕ → Part
-      partAt s k = record { s = s; k = k }
+      p ∙ (λ i. partAt (a i) (sym (terms-later l Galerkin m L) i))
 
 -- ---- what one level's operator asks for
 
@@ -198,7 +121,7 @@ module _ (l : FullLattice) (limits : Limits (l .grid)) (m : ℕ) (deep : m ≤ 1
         let there = operator-there l limits m deep (omega arith) f room₀ left in
         let last = operator-last l limits m deep (omega arith) f there in
         rw (stored-one e)
-        (record { there = there; starts-end = omega (arith, starts-later l m L); terms-end = omega (arith, last .1, terms-later l m L) })
+        (record { there = there; starts-end = omega (arith, starts-later l Galerkin m L); terms-end = omega (arith, last .1, terms-later l Galerkin m L) })
 
     pub level-given : {L : ℕ} {os oc : List ℕ} {ox : List Float} → L < m → {u : List ℕ} → Relations l (suc L) u → OperatorsLeft l Galerkin f m L os₀ oc₀ ox₀ os oc ox → OperatorRoom l Galerkin m os oc ox
         → LevelGiven (fineAt l m L) l eps (gridAt l (suc L)) u (forwardPart l L) ss cs xs (turnedPart l L) ts us ys (operatorPart l Galerkin m (suc L)) os oc ox f L
@@ -227,12 +150,8 @@ pub record Growing (l : FullLattice) (m : ℕ) (eps : List Float) (ss cs : List 
   pub left : (f : ℕ → C64) → TransfersBy l f m eps ss cs xs ts us ys → OperatorsLeft l Galerkin f m L os₀ oc₀ ox₀ os oc ox
   pub bad-is : (f : ℕ → C64) → TransfersBy l f m eps ss cs xs ts us ys → bad ≡ firstOf (operatorFine l Galerkin m f) L
 
-first-part : (l : FullLattice) (m : ℕ) → 0 < m → record { s = 0; k = 0 } ≡ operatorPart l Galerkin m 1
-first-part l zero h = absurd (omega arith)
-first-part l (suc m) h =
-    let a : 0 ≡ storedStarts l (suc m) 1 = omega (arith, sumTo-suc (storedRows l Galerkin (suc m)) 0, sumTo-zero (storedRows l Galerkin (suc m))) in
-    let b : 0 ≡ operatorOff l Galerkin (suc m) 1 = omega (arith, sumTo-suc (storedCount l Galerkin (suc m)) 0, sumTo-zero (storedCount l Galerkin (suc m))) in
-    λ i. record { s = a i; k = b i }
+first-part : (l : FullLattice) (m : ℕ) → 0 < m → partAt 0 0 ≡ operatorPart l Galerkin m 1
+first-part l m h = let p = operator-second l Galerkin m h in sym (λ i. partAt (p .0 i) (p .1 i))
 
 module _ (l : FullLattice) (limits : Limits (l .grid)) (m : ℕ) (deep : (0 < m) × (m ≤ 11)) {eps : List Float} {ss cs : List ℕ} {xs : List Float} {ts us : List ℕ} {ys : List Float}
     (ready : OperatorsReady l m eps ss cs xs ts us ys) {os₀ oc₀ : List ℕ} {ox₀ : List Float} (room₀ : OperatorRoom l Galerkin m os₀ oc₀ ox₀) where
@@ -247,14 +166,14 @@ module _ (l : FullLattice) (limits : Limits (l .grid)) (m : ℕ) (deep : (0 < m)
         o-is = e;
         fine-is = refl;
         q-is = first-part l m (deep .0);
-        left = λ f by. operators-start l f m (deep .0);
+        left = λ f by. operators-none l Galerkin f m (deep .0) os₀ oc₀ ox₀;
         bad-is = λ f by. refl;
       }
 
   module _ {os oc : List ℕ} {ox : List Float} {u : List ℕ} {o : Offsets} {fine : FineRows} {q : Part} {bad L : ℕ}
       (w : Growing l m eps ss cs xs ts us ys os₀ oc₀ ox₀ os oc ox u o fine q bad L) where
     pub growing-long : (length os ≡ length os₀) × (length oc ≡ length oc₀) × (length ox ≡ length ox₀)
-    growing-long = operators-long l (ready .reader) m (w .left (ready .reader) (ready .by))
+    growing-long = operators-long l Galerkin m (ready .reader) L (w .left (ready .reader) (ready .by))
 
     module _ (h : L < m) {v : List ℕ} (r : Relations l (suc L) v) where
       given-at : (f : ℕ → C64) → TransfersBy l f m eps ss cs xs ts us ys
@@ -270,11 +189,11 @@ module _ (l : FullLattice) (limits : Limits (l .grid)) (m : ℕ) (deep : (0 < m)
         laid-here f by = rw (w .q-is) at (d .operator f L (given-at f by))
 
         left-next : (f : ℕ → C64) → TransfersBy l f m eps ss cs xs ts us ys → OperatorsLeft l Galerkin f m (suc L) os₀ oc₀ ox₀ os′ oc′ ox′
-        left-next f by = operators-turn l f m (w .left f by) (laid-here f by)
+        left-next f by = operators-next l Galerkin m f L (w .left f by) (laid-here f by)
 
         room-next : OperatorRoom l Galerkin m os′ oc′ ox′
         room-next =
-            let n = operators-long l (ready .reader) m (left-next (ready .reader) (ready .by)) in
+            let n = operators-long l Galerkin m (ready .reader) (suc L) (left-next (ready .reader) (ready .by)) in
             record {
               starts-room = omega (arith, room₀ .starts-room, n .0);
               columns-room = omega (arith, room₀ .columns-room, n .1);
@@ -301,7 +220,7 @@ module _ (l : FullLattice) (limits : Limits (l .grid)) (m : ℕ) (deep : (0 < m)
               q-is = qe;
               left = left-next;
               bad-is = λ f by.
-                  be ∙ (λ i. noted (w .bad-is f by i) L (d .finite f L (given-at f by) i)) ∙ ap (λ (vs : List C64). noted (firstOf (operatorFine l Galerkin m f) L) L (allFinite vs)) (sym (numbers-part l m L f));
+                  be ∙ (λ i. noted (w .bad-is f by i) L (d .finite f L (given-at f by) i)) ∙ ap (λ (vs : List C64). noted (firstOf (operatorFine l Galerkin m f) L) L (allFinite vs)) (sym (numbers-stored l m (suc L) (stored-later m L) Galerkin f));
             })
 
     pub growing-end : m ≤ L → OperatorsDone l m eps ss cs xs ts us ys os₀ oc₀ ox₀ os oc ox bad

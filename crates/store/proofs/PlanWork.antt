@@ -1,17 +1,15 @@
 -- Laws for the code that does the work: one row, written anyhow; a plan of two parts; a call that saves, writes, goes on and puts back; a plan that is told
 -- by a test of each row. Assumes nothing.
-use Prim.Native.Nat.{ℕ, zero, suc, _+_, _-_, _≤_, _<_}
+use Prim.Native.Nat.{ℕ}
 use mathlib.Core.Path.{_≡_, refl, sym, ap, _∙_}
-use mathlib.Core.Logic.{_⊎_, inl, inr, ⊎-elim}
+use mathlib.Core.Logic.{inl, inr, ⊎-elim}
 use mathlib.Core.List.{List, _∷_, _++_, []}
 use mathlib.Core.Option.{Option, none, some}
 use mathlib.Core.Bool.{Bool, true, false, cond, false≢true}
-use native.Mathlib.Omega.{arith}
 use Rattle.numbers.specs.Lists.{In}
 use Rattle.numbers.proofs.MemberLaws.{in-append, in-left, in-right}
 use Rattle.store.specs.Space.{Space, Lawful, puts, meets}
 use Rattle.store.specs.Plan.{Rules, Laws, step, run, rowFine, fine, firstBad, tried, reach, reached, Stands, Consistent, Room, Rising, Sound}
-use Rattle.store.specs.Counted.{counted}
 use Rattle.store.proofs.TestLaws.{bool?}
 use Rattle.store.proofs.PlaceLaws.{meets-at, at-meets, puts-is, puts-back}
 use Rattle.store.proofs.PlanLaws.{same-run, consistent-run, reach-sound}
@@ -118,16 +116,6 @@ module _ {X : Space} (R : Rules X) where
   unfolding picked
   picked-append t [] qs = refl
   picked-append t (p ∷ ps) qs = ⊎-elim (λ e. rw e (ap (λ (l : List (R .Row)). p ∷ l) (picked-append t ps qs))) (λ e. rw e (picked-append t ps qs)) (bool? (t p))
-
-  pub picked-none : (t : R .Row → Bool) (f : ℕ → R .Row) (k c : ℕ) → ((j : ℕ) → k ≤ j → j < k + c → t (f j) ≡ false) → picked t (counted f k c) ≡ []
-  unfolding picked counted
-  picked-none t f k zero h = refl
-  picked-none t f k (suc c) h = rw (h k (omega arith) (omega arith)) (picked-none t f (k + 1) c (λ j a b. h j (omega arith) (omega arith)))
-
-  pub picked-all : (t : R .Row → Bool) (f : ℕ → R .Row) (k c : ℕ) → ((j : ℕ) → k ≤ j → j < k + c → t (f j) ≡ true) → picked t (counted f k c) ≡ counted f k c
-  unfolding picked counted
-  picked-all t f k zero h = refl
-  picked-all t f k (suc c) h = rw (h k (omega arith) (omega arith)) (ap (λ (l : List (R .Row)). f k ∷ l) (picked-all t f (k + 1) c (λ j a b. h j (omega arith) (omega arith))))
 
   -- where the first row is or is not finite
   pub first-no : (r : R .Row) (rs : List (R .Row)) (s : X .S) → rowFine R s r ≡ false → firstBad R (r ∷ rs) s ≡ some (R .level r)

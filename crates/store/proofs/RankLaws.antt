@@ -1,17 +1,19 @@
 -- The rank of each number of the store: that of the row that writes it. Ranks rise along the rows, and a row reads only numbers of lower rank. Assumes nothing.
 use Prim.Native.Nat.{ℕ, zero, suc, _+_, _-_, _*_, _≤_, _<_}
 use mathlib.Core.Path.{_≡_, refl}
-use mathlib.Core.Logic.{_⊎_, ⊎-elim}
+use mathlib.Core.Logic.{⊎-elim}
 use mathlib.Core.Bool.{cond}
 use mathlib.Core.List.{List, map}
 use native.Mathlib.Omega.{arith}
 use lib.Dec.{ltb}
 use lib.ListN.{length}
 use borrow.Author.Tests.{lt-ltb, le-ltb}
-use Rattle.numbers.specs.Lists.{each, startOf, In, sumTo}
+use Rattle.numbers.specs.Lists.{tabulate, each, startOf, In, sumTo}
 use Rattle.numbers.specs.Transpose.{turnedReads}
 use Rattle.numbers.proofs.MemberLaws.{in-append}
 use Rattle.numbers.proofs.StoredLaws.{start-room}
+use Rattle.numbers.proofs.PartLaws.{part-room}
+use Rattle.numbers.proofs.TransposedLaws.{in-tabulate}
 use Rattle.lattice.specs.Lattice.{FullLattice}
 use Rattle.weights.specs.CoarseEps.{epsReads}
 use Rattle.weights.specs.Prolongation.{weightReads}
@@ -20,15 +22,13 @@ use Rattle.operators.specs.Averaged.{averagedReads}
 use Rattle.operators.specs.LevelLists.{edgesOn}
 use Rattle.operators.specs.Levels.{latticeAt}
 use Rattle.operators.specs.Stencil.{stencilReads}
-use Rattle.store.specs.Counted.{counted}
 use Rattle.store.specs.Spots.{Kind, permittivity, forwards, turneds, entries, scales, Spot, spot}
 use Rattle.store.specs.Layout.{forwardCols, turnedCols, operatorCols, nextEdges, forwardCount, turnedCount, operatorCount, firstStored, storedCount, scaleCount, epsOff, averagedOff, forwardOff, turnedOff, operatorOff, scaleOff}
 use Rattle.store.specs.declared.Choice.{Choice}
 use Rattle.store.specs.declared.Choice.the-variants.{Galerkin, Rediscretized}
 use Rattle.store.specs.Rows.{Row, coarse, averaged, forward, turned, volume, share, operator, kindOf, from, count, epsSpot, averagedSpot, epsSpots, averagedSpots, forwardSpots, turnedSpots, operatorSpots, operatorReading, reading, only, group, groups, full}
-use Rattle.store.proofs.Ranking.{in-counted}
 use Rattle.store.proofs.Search.{find}
-use Rattle.store.proofs.PartLaws.{part-found, part-room, row-found}
+use Rattle.store.proofs.Search.{part-found, row-found}
 use Rattle.store.proofs.SpotLaws.{in-map, each-in}
 
 -- ---- what the rules read lies in its level
@@ -68,26 +68,26 @@ first-most zero L h = omega arith
 first-most (suc m) L h = omega arith
 
 module _ (l : FullLattice) (ch : Choice) (m : ℕ) where
-  some-in : (r : Row) (f : ℕ → Row) (n : ℕ) → In r (counted f 0 n) → ((j : ℕ) → j < n → Valid l ch m (f j)) → Valid l ch m r
-  some-in r f n i h = let t = in-counted f 0 n r i in rw (t .3) (h (t .0) (omega arith))
+  some-in : (r : Row) (f : ℕ → Row) (n : ℕ) → In r (tabulate f n 0) → ((j : ℕ) → j < n → Valid l ch m (f j)) → Valid l ch m r
+  some-in r f n i h = let t = in-tabulate f n 0 r i in rw (t .3) (h (t .0) (omega arith))
 
   group-in : (L : ℕ) → L < m → (r : Row) → In r (group l ch L) → Valid l ch m r
   group-in L b r i =
       let n = edgesOn l L in
       let k = edgesOn l (suc L) in
       ⊎-elim (λ a. some-in r (coarse L) k a (λ j h. (b, h)))
-      (λ i. ⊎-elim (λ a. let o = only-in ch (counted (averaged L) 0 k) r a in some-in r (averaged L) k (o .1) (λ j h. (b, h, o .0)))
+      (λ i. ⊎-elim (λ a. let o = only-in ch (tabulate (averaged L) k 0) r a in some-in r (averaged L) k (o .1) (λ j h. (b, h, o .0)))
       (λ i. ⊎-elim (λ a. some-in r (forward L) n a (λ j h. (b, h)))
       (λ i. ⊎-elim (λ a. some-in r (turned L) k a (λ j h. (b, h)))
-      (λ i. ⊎-elim (λ a. let o = only-in ch (counted (volume L) 0 n) r a in some-in r (volume L) n (o .1) (λ j h. (b, h, o .0)))
-      (λ i. ⊎-elim (λ a. let o = only-in ch (counted (share L) 0 k) r a in some-in r (share L) k (o .1) (λ j h. (b, h, o .0)))
+      (λ i. ⊎-elim (λ a. let o = only-in ch (tabulate (volume L) n 0) r a in some-in r (volume L) n (o .1) (λ j h. (b, h, o .0)))
+      (λ i. ⊎-elim (λ a. let o = only-in ch (tabulate (share L) k 0) r a in some-in r (share L) k (o .1) (λ j h. (b, h, o .0)))
       (λ a. some-in r (operator (suc L)) k a (λ j h. (first-most m L b, b, h)))
-      (in-append r (only ch (counted (share L) 0 k)) _ i))
-      (in-append r (only ch (counted (volume L) 0 n)) _ i))
-      (in-append r (counted (turned L) 0 k) _ i))
-      (in-append r (counted (forward L) 0 n) _ i))
-      (in-append r (only ch (counted (averaged L) 0 k)) _ i))
-      (in-append r (counted (coarse L) 0 k) _ i)
+      (in-append r (only ch (tabulate (share L) k 0)) _ i))
+      (in-append r (only ch (tabulate (volume L) n 0)) _ i))
+      (in-append r (tabulate (turned L) k 0) _ i))
+      (in-append r (tabulate (forward L) n 0) _ i))
+      (in-append r (only ch (tabulate (averaged L) k 0)) _ i))
+      (in-append r (tabulate (coarse L) k 0) _ i)
 
   groups-in : (n : ℕ) → n ≤ m → (r : Row) → In r (groups l ch n) → Valid l ch m r
   unfolding groups
@@ -263,13 +263,13 @@ module _ (l : FullLattice) (ch : Choice) (m : ℕ) where
 
   in-forward : (L r : ℕ) (s : Spot) → L < m → r < edgesOn l L → In s (forwardSpots l ch m L r) → Ranked s (8 * suc L + 2)
   in-forward L r s h b i =
-      let t = in-counted (spot forwards) (forwardOff l L + startOf (forwardCols l L) r) (length (forwardCols l L r)) s i in
+      let t = in-tabulate (spot forwards) (length (forwardCols l L r)) (forwardOff l L + startOf (forwardCols l L) r) s i in
       let k = start-room (forwardCols l L) (edgesOn l L) r b in
       rw (t .3) (forward-rank L (t .0) (t .0 - forwardOff l L) h (omega (arith, t .1, t .2)) (omega (arith, t .1)))
 
   in-turned : (L c : ℕ) (s : Spot) → L < m → c < edgesOn l (suc L) → In s (turnedSpots l ch m L c) → Ranked s (8 * suc L + 3)
   in-turned L c s h b i =
-      let t = in-counted (spot turneds) (turnedOff l L + startOf (turnedCols l L) c) (length (turnedCols l L c)) s i in
+      let t = in-tabulate (spot turneds) (length (turnedCols l L c)) (turnedOff l L + startOf (turnedCols l L) c) s i in
       let k = start-room (turnedCols l L) (edgesOn l (suc L)) c b in
       rw (t .3) (turned-rank L (t .0) (t .0 - turnedOff l L) h (omega (arith, t .1, t .2)) (omega (arith, t .1)))
 
@@ -277,7 +277,7 @@ module _ (l : FullLattice) (ch : Choice) (m : ℕ) where
     in-operator : (L r : ℕ) (s : Spot) → L < m → r < edgesOn l L → In s (operatorSpots l ch m L r) → rankOf (s .kind) (s .number) < 8 * L + 7
     in-operator zero r s h b i = let e = in-eps 0 (stencilReads l r) s (omega arith) (λ c j. w .first-low r c b j) i in omega arith
     in-operator (suc L) r s h b i =
-        let t = in-counted (spot entries) (operatorOff l ch m (suc L) + startOf (operatorCols l ch (suc L)) r) (length (operatorCols l ch (suc L) r)) s i in
+        let t = in-tabulate (spot entries) (length (operatorCols l ch (suc L) r)) (operatorOff l ch m (suc L) + startOf (operatorCols l ch (suc L)) r) s i in
         let k = start-room (operatorCols l ch (suc L)) (edgesOn l (suc L)) r b in
         let e : Ranked s (8 * suc L + 6) =
         rw (t .3) (operator-rank (suc L) (t .0) (t .0 - operatorOff l ch m (suc L)) (first-most m L (omega arith)) (omega arith) (omega (arith, t .1, t .2)) (omega (arith, t .1))) in

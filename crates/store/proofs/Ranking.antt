@@ -1,36 +1,16 @@
--- How to show that rows rise: by ranks of places. And lists of rows or places that count up. Assumes nothing.
-use Prim.Native.Nat.{ℕ, zero, suc, _+_, _≤_, _<_}
+-- How to show that rows rise: by ranks of places. Assumes nothing.
+use Prim.Native.Nat.{ℕ, zero, suc, _≤_, _<_}
 use mathlib.Core.Path.{_≡_, refl, sym, ap, _∙_}
 use mathlib.Core.Logic.{_⊎_, inl, inr, ⊎-elim}
 use mathlib.Core.List.{List, [], _∷_, _++_}
-use native.Mathlib.Decide.{ℕ-discrete}
 use native.Mathlib.Omega.{arith}
-use Rattle.numbers.specs.Lists.{In}
+use Rattle.numbers.specs.Lists.{tabulate, In}
+use Rattle.numbers.proofs.Equations.{tabulate-zero, tabulate-suc}
 use Rattle.numbers.proofs.MemberLaws.{in-append}
+use Rattle.numbers.proofs.TransposedLaws.{in-tabulate}
 use Rattle.store.specs.Space.{Space}
-use Rattle.store.specs.Counted.{counted}
 use Rattle.store.specs.Plan.{Rules, Rising, Climbing}
 use Rattle.store.proofs.PlanLaws.{in-stands}
-
-pub in-counted : {A : Type 0} (f : ℕ → A) (k c : ℕ) (a : A) → In a (counted f k c) → (j : ℕ) × (k ≤ j) × (j < k + c) × (a ≡ f j)
-unfolding counted
-in-counted f k zero a i = absurd i
-in-counted f k (suc c) a (inl e) = (k, omega arith, omega arith, e)
-in-counted f k (suc c) a (inr i) = let h = in-counted f (k + 1) c a i in (h .0, omega arith, omega arith, h .3)
-
-pub counted-in : {A : Type 0} (f : ℕ → A) (k c j : ℕ) → k ≤ j → j < k + c → In (f j) (counted f k c)
-unfolding counted
-counted-in f k zero j l m = absurd (omega arith)
-counted-in f k (suc c) j l m =
-    elim (ℕ-discrete j k) as (λ _. In (f j) (counted f k (suc c))) [ yes e ↦ inl (ap f e) | no h ↦ inr (counted-in f (k + 1) c j (omega arith) (omega arith)) ]
-
-pub counted-append : {A : Type 0} (f : ℕ → A) (k c d n : ℕ) → n ≡ c + d → counted f k n ≡ counted f k c ++ counted f (k + c) d
-unfolding counted
-counted-append {A} f k zero d zero e = let z : d ≡ 0 = omega arith in rw z refl
-counted-append {A} f k zero d (suc n) e = let z : d ≡ suc n = omega arith in let y : k + 0 ≡ k = omega arith in rw (z, y) refl
-counted-append {A} f k (suc c) d zero e = absurd (omega arith)
-counted-append {A} f k (suc c) d (suc n) e =
-    let y : k + suc c ≡ k + 1 + c = omega arith in rw y (ap (λ (l : List A). f k ∷ l) (counted-append f (k + 1) c d n (omega arith)))
 
 -- rows by their rank, and by their number among the rows of that rank
 module _ {A : Type 0} (rank number : A → ℕ) where
@@ -46,17 +26,17 @@ module _ {A : Type 0} (rank number : A → ℕ) where
   ordered-append (r ∷ rs) qs o k h =
       ((λ q i. ⊎-elim (λ j. o .0 q j) (λ j. h r q (inl refl) j) (in-append q rs qs i)), ordered-append rs qs (o .1) k (λ a b i j. h a b (inr i) j))
 
-  pub ordered-counted : (f : ℕ → A) (n k c : ℕ) → ((j : ℕ) → rank (f j) ≡ n) → ((j : ℕ) → number (f j) ≡ j) → Ordered (counted f k c)
-  unfolding counted
-  ordered-counted f n k zero e g = tt
-  ordered-counted f n k (suc c) e g = (
-    (λ q i. let h = in-counted f (k + 1) c q i in
-        let a : rank q ≡ rank (f k) = ap rank (h .3) ∙ e (h .0) ∙ sym (e k) in
-        let b : number q ≡ h .0 = ap number (h .3) ∙ g (h .0) in
-        let d = g k in
-        inr (sym a, omega arith)),
-    ordered-counted f n (k + 1) c e g,
-  )
+  pub ordered-tabulate : (f : ℕ → A) (n c k : ℕ) → ((j : ℕ) → rank (f j) ≡ n) → ((j : ℕ) → number (f j) ≡ j) → Ordered (tabulate f c k)
+  ordered-tabulate f n zero k e g = rw (tabulate-zero f k) tt
+  ordered-tabulate f n (suc c) k e g =
+      rw (tabulate-suc f c k) (
+        (λ q i. let h = in-tabulate f c (suc k) q i in
+            let a : rank q ≡ rank (f k) = ap rank (h .3) ∙ e (h .0) ∙ sym (e k) in
+            let b : number q ≡ h .0 = ap number (h .3) ∙ g (h .0) in
+            let d = g k in
+            inr (sym a, omega arith)),
+        ordered-tabulate f n c (suc k) e g,
+      )
 
 -- each place has the rank and the number of the row that writes it, and a row reads only places of lower rank
 pub record Ranked (X : Space) (R : Rules X) : Type 0 where

@@ -7,12 +7,12 @@ use mathlib.Core.List.{List, _∷_, _++_, map, []}
 use native.Mathlib.Omega.{arith}
 use lib.ListN.{length}
 use borrow.Author.Tests.{eq-eqb, eqb-true}
-use Rattle.numbers.specs.Lists.{each, startOf, In}
+use Rattle.numbers.specs.Lists.{tabulate, each, startOf, In}
 use Rattle.numbers.specs.Transpose.{turnedReads}
 use Rattle.numbers.proofs.MemberLaws.{in-append, in-left, in-right}
 use Rattle.numbers.proofs.SumLaws.{sumTo-zero}
 use Rattle.numbers.proofs.Laws.{either-of, or-left, or-right}
-use Rattle.numbers.proofs.TransposedLaws.{reads-weight, weight-reads}
+use Rattle.numbers.proofs.TransposedLaws.{reads-weight, weight-reads, in-tabulate, tabulate-in}
 use Rattle.numbers.proofs.StoredLaws.{place-of}
 use Rattle.numbers.proofs.CollectSums.{in-at}
 use Rattle.lattice.specs.Grid.{Limits}
@@ -26,7 +26,6 @@ use Rattle.operators.specs.Levels.{latticeAt}
 use Rattle.operators.specs.Stencil.{stencilReads}
 use Rattle.operators.proofs.ForwardPattern.{turned-named}
 use Rattle.store.specs.Plan.{reached}
-use Rattle.store.specs.Counted.{counted}
 use Rattle.store.specs.Places.{Place, endsAt, permittivitiesAt, forwardStartsAt, forwardColumnsAt, forwardValuesAt, turnedStartsAt, turnedColumnsAt, turnedValuesAt, operatorStartsAt, operatorColumnsAt, operatorValuesAt, scalingAt}
 use Rattle.store.specs.Spots.{Kind, permittivity, forwards, turneds, entries, scales, Spot, spot, place, cells}
 use Rattle.store.specs.Layout.{blank, forwardCols, turnedCols, operatorCols, epsOff, averagedOff, forwardOff, scaleOff}
@@ -37,7 +36,6 @@ use Rattle.store.specs.Reach.{any, epsHit, averagedHit, forwardHit, turn
 use Rattle.store.proofs.TestLaws.{bool?}
 use Rattle.store.proofs.PlanLaws.{in-stands, stands-in}
 use Rattle.store.proofs.PlanTheorem.{Touched}
-use Rattle.store.proofs.Ranking.{in-counted, counted-in}
 use Rattle.store.proofs.PlanWork.{picked, picked-reach}
 use Rattle.store.proofs.LandedLaws.{full-has}
 use Rattle.store.proofs.RangeLaws.{ranges}
@@ -232,15 +230,15 @@ module _ (l : FullLattice) (limits : Limits (l .grid)) (m e : ℕ) (base : e < e
         (spot permittivity (averagedSpot l ch m L (u .0)), map-in (λ c. spot permittivity (averagedSpot l ch m L c)) cs (u .0) (u .1), hot-averaged o L (u .0) h (low (u .0) (u .1)) (u .2))
 
     -- a number of a whole row
-    whole-hot : (r : Row) → Valid l ch m r → SomeHot (counted (spot (kindOf l ch m r)) (from l ch m r) (count l ch m r)) → hit l e ch r ≡ true
+    whole-hot : (r : Row) → Valid l ch m r → SomeHot (tabulate (spot (kindOf l ch m r)) (count l ch m r) (from l ch m r)) → hit l e ch r ≡ true
     whole-hot r v t =
-        let u = in-counted (spot (kindOf l ch m r)) (from l ch m r) (count l ch m r) (t .0) (t .1) in
+        let u = in-tabulate (spot (kindOf l ch m r)) (count l ch m r) (from l ch m r) (t .0) (t .1) in
         row-hot r v (u .0) (u .1) (u .2) (hot-in (t .0) (kindOf l ch m r) (u .0) (u .3) (t .2))
 
-    hot-whole : (r : Row) → Valid l ch m r → 0 < count l ch m r → hit l e ch r ≡ true → SomeHot (counted (spot (kindOf l ch m r)) (from l ch m r) (count l ch m r))
+    hot-whole : (r : Row) → Valid l ch m r → 0 < count l ch m r → hit l e ch r ≡ true → SomeHot (tabulate (spot (kindOf l ch m r)) (count l ch m r) (from l ch m r))
     hot-whole r v b h =
         let q = from l ch m r in
-        (spot (kindOf l ch m r) q, counted-in (spot (kindOf l ch m r)) q (count l ch m r) q (omega arith) (omega arith), hot-row r v h q (omega arith) (omega arith))
+        (spot (kindOf l ch m r) q, tabulate-in (spot (kindOf l ch m r)) (count l ch m r) q q (omega arith) (omega arith), hot-row r v h q (omega arith) (omega arith))
 
     some-left : (ss ts : List Spot) → SomeHot ss → SomeHot (ss ++ ts)
     some-left ss ts t = (t .0, in-left (t .0) ss ts (t .1), t .2)
@@ -456,7 +454,7 @@ module _ (l : FullLattice) (limits : Limits (l .grid)) (m e : ℕ) (base : e < e
       (λ i. let a = in-stands (rules l ch m) plan (t .0) i in
       let b = picked-in (full l ch m) (a .0) (a .1) in
       let k = kindOf l ch m (a .0) in
-      let c = in-counted (place k) (2 * from l ch m (a .0)) (2 * count l ch m (a .0)) (t .0) (a .2) in
+      let c = in-tabulate (place k) (2 * count l ch m (a .0)) (2 * from l ch m (a .0)) (t .0) (a .2) in
       let y : s ≡ spot k (c .0 / 2) = sym z ∙ ap spotAt (c .3) ∙ spot-place k (c .0) in
       let n : s .number ≡ c .0 / 2 = ap (λ (x : Spot). x .number) y in
       (s, u .1, inr (a .0, full-in l ch m (a .0) (b .0), b .1, ap (λ (x : Spot). x .kind) y, omega (arith, c .1), omega (arith, c .2))))
@@ -472,7 +470,7 @@ module _ (l : FullLattice) (limits : Limits (l .grid)) (m e : ℕ) (base : e < e
             (λ z. inl (subst (λ (x : Spot). In p (cells x)) z (inl refl)))
             (λ a. inr (stands-in (rules l ch m) plan (a .0) (in-picked (full l ch m) (a .0) (full-has l ch m (a .0) (a .1)) (a .2)) p
             (subst (λ (k : Kind). In (place k (2 * s .number)) (writes l ch m (a .0))) (sym (a .3))
-            (counted-in (place (kindOf l ch m (a .0))) (2 * from l ch m (a .0)) (2 * count l ch m (a .0)) (2 * s .number) (omega (arith, a .4)) (omega (arith, a .5))))))
+            (tabulate-in (place (kindOf l ch m (a .0))) (2 * count l ch m (a .0)) (2 * from l ch m (a .0)) (2 * s .number) (omega (arith, a .4)) (omega (arith, a .5))))))
             (t .2),
       )
 

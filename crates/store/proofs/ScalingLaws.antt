@@ -1,11 +1,11 @@
 -- Volumes and inverse shares, transfer by transfer.
 -- Assumes nothing.
-use Prim.Native.Nat.{ℕ, zero, suc, _+_, _-_, _*_, _≤_, _<_, _^_}
+use Prim.Native.Nat.{ℕ, zero, suc, _+_, _*_, _≤_, _<_, _^_}
 use mathlib.Core.Path.{_≡_, refl, sym, ap, subst, _∙_}
 use mathlib.Core.Bool.{Bool, _&&_}
 use mathlib.Core.List.{List, _++_}
 use native.Mathlib.Omega.{arith}
-use lib.ListN.{length, getD, length-append}
+use lib.ListN.{length, getD}
 use lib.Ieee.{Float}
 use Rattle.numbers.specs.declared.C64.{C64}
 use Rattle.numbers.specs.declared.terms.Part.{Part}
@@ -17,7 +17,8 @@ use Rattle.numbers.proofs.Equations.{readFrom-is}
 use Rattle.numbers.proofs.TabulateLaws.{length-tabulate, tabulate-at-0, tabulate-agree}
 use Rattle.numbers.proofs.SumLaws.{sumTo-zero, sumTo-suc, sum-most}
 use Rattle.numbers.proofs.ListLaws.{laid-behind-laid, laid-numbers-at, laid-numbers-length}
-use Rattle.numbers.proofs.TransposedLaws.{start-same, mem-in}
+use Rattle.numbers.proofs.TransposedLaws.{mem-in}
+use Rattle.numbers.proofs.PartLaws.{laid-next, laid-zero, part-room, rows-sum}
 use Rattle.lattice.specs.declared.line.Line.{Line}
 use Rattle.lattice.specs.declared.levels.Three.{Three}
 use Rattle.lattice.specs.Grid.{Limits, unknownsOf}
@@ -30,12 +31,11 @@ use Rattle.operators.specs.LevelLists.{edgesOn}
 use Rattle.operators.specs.Levels.{turnedAt, latticeAt, volumesAt, inverseSharesAt}
 use Rattle.operators.specs.Rediscretized.{rediscretizedLattice, Tame}
 use Rattle.operators.specs.Volumes.{volumeOf, inverseShare, sharesFinite}
-use Rattle.operators.proofs.ColumnsOnly.{turned-at-same}
 use Rattle.operators.proofs.LevelListLaws.{lattice-limits}
 use Rattle.operators.proofs.RangeLaws.{level-edges, edges-few, turned-names-low}
 use Rattle.operators.proofs.RediscretizedLaws.{tame-at}
 use Rattle.operators.proofs.VolumeLaws.{inverse-local}
-use Rattle.store.specs.Layout.{blank, turnedCols, nextEdges, turnedCount, turnedOff, scaleCount, scaleOff, startsOff}
+use Rattle.store.specs.Layout.{nextEdges, turnedCount, turnedOff, scaleCount, scaleOff, startsOff}
 use Rattle.store.specs.Setup.{scalePart}
 use Rattle.store.specs.Phases.{HasLines, threeIn, turnedPart, noted, firstOf, TransfersIn, ScalingRoom, scaleFine}
 use Rattle.store.specs.PhaseSteps.{behindOf, TurnedStored, TurnedIn, VolumesLeft, ScaleLevel, ScalingLeft}
@@ -44,13 +44,10 @@ use Rattle.operators.proofs.RediscretizedLists.{lattice-own}
 use Rattle.operators.proofs.ShareFine.{shares-local}
 use Rattle.store.proofs.LineLaws.{three-is}
 use Rattle.store.proofs.EndLaws.{edges-next}
-use Rattle.store.proofs.StepLaws.{partAt, sum-within, laid-next, laid-zero, rows-sum}
+use Rattle.store.proofs.StepLaws.{partAt}
+use Rattle.store.proofs.SizeLaws.{turned-count, scale-long}
 
 -- ---- the turned rows, from the transfers
-
-turned-columns : (l : FullLattice) (f : ℕ → C64) (L c : ℕ) → columnsOf (turnedAt l f L c) ≡ turnedCols l L c
-unfolding turnedCols
-turned-columns l f L c = turned-at-same l f blank L c
 
 module _ {l : FullLattice} {f : ℕ → C64} {m : ℕ} {ss cs : List ℕ} {xs : List Float} {ts us : List ℕ} {ys : List Float} (u : TransfersIn l f m ss cs xs ts us ys) where
   pub turned-stored : TurnedStored l m ts us ys
@@ -59,7 +56,7 @@ module _ {l : FullLattice} {f : ℕ → C64} {m : ℕ} {ss cs : List ℕ} {xs : 
         stored = λ L h. u .each-in L h .turned-stored;
         count-is = λ L h.
             u .each-in L h .turned-count-is
-            ∙ start-same (turnedAt l f L) (turnedCols l L) (edgesOn l (suc L)) (λ c b. turned-columns l f L c) (edgesOn l (suc L)) (omega arith);
+            ∙ turned-count l f L;
       }
 
   pub turned-in : TurnedIn l f m ts us ys
@@ -122,7 +119,7 @@ module _ (l : FullLattice) (limits : Limits (l .grid)) (m L : ℕ) (h : (L < m) 
   next = edges-next l L coarse
 
   whole : k + n + c ≤ scaleOff l m
-  whole = omega (arith, fine, next, sum-within (scaleCount l) m L (h .0), at .1)
+  whole = omega (arith, fine, next, part-room (scaleCount l) L m (h .0), at .1)
 
   pub sum-low : k + n ≤ 2 ^ 32
   sum-low = omega (arith, fine, at .1, scale-low l limits L (omega (arith, h .0, h .1)), edges-few l limits L)
@@ -195,11 +192,6 @@ module _ (l : FullLattice) (limits : Limits (l .grid)) (m L : ℕ) (h : (L < m) 
           }
 
 -- ---- transfer by transfer
-
-pub scale-long : (l : FullLattice) (f : ℕ → C64) (L : ℕ) → length (scalePart l f L) ≡ scaleCount l L
-scale-long l f L =
-    length-append (tabulate (volumesAt l L) (edgesOn l L) 0) (tabulate (inverseSharesAt l f L) (edgesOn l (suc L)) 0)
-    ∙ (λ i. length-tabulate (volumesAt l L) (edgesOn l L) 0 i + length-tabulate (inverseSharesAt l f L) (edgesOn l (suc L)) 0 i)
 
 pub record Scaling (l : FullLattice) (m : ℕ) (ts us : List ℕ) (ys xs₀ xs : List Float) (t : Part) (k bad L : ℕ) : Type 0 where
   pub high : L ≤ m

@@ -16,6 +16,7 @@ use Rattle.numbers.proofs.SumLaws.{sumTo-zero, sumTo-suc}
 use Rattle.numbers.proofs.Equations.{readFrom-is}
 use Rattle.numbers.proofs.TabulateLaws.{tabulate-at-0}
 use Rattle.numbers.proofs.TransposedLaws.{Kept, laid-count, laid-row, laid-stored, row-kept, starts-same, columns-same, stored-kept, stored-start}
+use Rattle.numbers.proofs.PartLaws.{laid-part, laid-split, part-room, partsFrom, rows-sum}
 use Rattle.lattice.specs.Grid.{Limits}
 use Rattle.lattice.specs.Lattice.{FullLattice}
 use Rattle.operators.specs.LevelLists.{edgesOn, TransferIn}
@@ -27,8 +28,8 @@ use Rattle.store.specs.Setup.{epsPart, forwardStartsOf, forwardColsOf, f
 use Rattle.store.specs.Phases.{forwardPart, turnedPart, GivenIn, TransferRoom, TransfersLeft, TransfersIn}
 use Rattle.store.specs.FillSteps.{TransfersBy, OperatorsReady}
 use Rattle.operators.proofs.Equations.{epsAt-zero}
-use Rattle.store.proofs.ListParts.{part-room, rows-sum, laid-next, laid-split, partsFrom}
 use Rattle.store.proofs.SizeLaws as Sizes
+use Rattle.store.proofs.ColumnLaws.{forward-cols-at, turned-cols-at, turned-many}
 
 -- ---- parts of rows, one behind another in three lists: starts SS, columns CC, numbers XX, gs i starts and gc i terms in part i
 
@@ -40,9 +41,9 @@ module _ (SS CC : ℕ → List ℕ) (XX : ℕ → List C64) (gs gc : ℕ → ℕ
       (laid ss 0 (rows SS (suc L))) (laid cs 0 (rows CC (suc L))) (laidNumbers xs 0 (rows XX (suc L)))
   part-laid =
       record {
-        starts-are = sym (laid-next set ss SS gs ls L refl refl) ∙ ap (laid (laid ss 0 (rows SS L)) (sumTo gs L)) es;
-        columns-are = sym (laid-next set cs CC gc lc L refl refl) ∙ ap (laid (laid cs 0 (rows CC L)) (sumTo gc L)) ec;
-        numbers-are = sym (laid-next setNumber xs XX gc lx L refl refl) ∙ ap (laidNumbers (laidNumbers xs 0 (rows XX L)) (sumTo gc L)) ex;
+        starts-are = sym (laid-part set ss SS gs ls L refl refl) ∙ ap (laid (laid ss 0 (rows SS L)) (sumTo gs L)) es;
+        columns-are = sym (laid-part set cs CC gc lc L refl refl) ∙ ap (laid (laid cs 0 (rows CC L)) (sumTo gc L)) ec;
+        numbers-are = sym (laid-part setNumber xs XX gc lx L refl refl) ∙ ap (laidNumbers (laidNumbers xs 0 (rows XX L)) (sumTo gc L)) ex;
       }
 
   module _ (M : ℕ) (h : L < M) (rs : sumTo gs M ≤ length ss) (rc : sumTo gc M ≤ length cs) (rx : 2 * sumTo gc M ≤ length xs) (s-low : sumTo gs L ≤ 2 ^ 32) (k-low : sumTo gc L ≤ 2 ^ 32) where
@@ -103,16 +104,16 @@ module _ (l : FullLattice) (limits : Limits (l .grid)) (f : ℕ → C64) (m : �
       let k = edgesOn l (suc L) in
       let P = forwardAt l f L in
       let R = turnedAt l f L in
-      let fs = sym (starts-same P (forwardCols l L) n (λ r b. Sizes.forward-columns l f L r)) in
-      let fc = sym (columns-same P (forwardCols l L) n (λ r b. Sizes.forward-columns l f L r)) in
-      let tc = sym (columns-same R (turnedCols l L) k (λ r b. Sizes.turned-columns l f L r)) in
-      let ts′ = sym (starts-same R (turnedCols l L) k (λ r b. Sizes.turned-columns l f L r)) in
+      let fs = sym (starts-same P (forwardCols l L) n (λ r b. forward-cols-at l f L r)) in
+      let fc = sym (columns-same P (forwardCols l L) n (λ r b. forward-cols-at l f L r)) in
+      let tc = sym (columns-same R (turnedCols l L) k (λ r b. turned-cols-at l f L r)) in
+      let ts′ = sym (starts-same R (turnedCols l L) k (λ r b. turned-cols-at l f L r)) in
       let fe = Sizes.edges-few l limits L in
       let ke = Sizes.edges-few l limits (suc L) in
       let fn = sym (Sizes.forward-count l f L) in
       let tn = sym (Sizes.turned-count l f L) in
       let ff = Sizes.forward-few l limits L in
-      let tm = Sizes.turned-many l limits L in
+      let tm = turned-many l limits L in
       let a : sumTo (λ i. edgesOn l i + 1) L ≤ 2 ^ 32 = omega (arith, Sizes.starts-low l limits L) in
       let b : sumTo (forwardCount l) L ≤ 2 ^ 32 = omega (arith, Sizes.forward-low l limits L) in
       let c : sumTo (λ i. nextEdges l i + 1) L ≤ 2 ^ 32 = omega (arith, Sizes.tstarts-low l limits L) in

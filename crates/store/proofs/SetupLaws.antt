@@ -1,7 +1,7 @@
 -- What a setup starts from has the lattice's structure and the given permittivities; and demand 3 over the list of permittivities that the book holds. Assumes nothing.
 use Prim.Native.Nat.{ℕ, suc, _+_, _-_, _*_, _/_, _%_, _≤_, _<_}
 use mathlib.Core.Path.{_≡_, refl, sym, ap, subst, _∙_}
-use mathlib.Core.Logic.{_⊎_, inl, inr, ⊎-elim}
+use mathlib.Core.Logic.{inl, inr, ⊎-elim}
 use mathlib.Core.Bool.{Bool, false, cond}
 use mathlib.Core.List.{List, _∷_, []}
 use mathlib.Core.Option.{Option, none, some}
@@ -19,6 +19,7 @@ use Rattle.numbers.proofs.TabulateLaws.{length-tabulate, tabulate-at-0}
 use Rattle.numbers.proofs.ListLaws.{laid-length, laid-numbers-length, laid-numbers-at}
 use Rattle.numbers.proofs.SumLaws.{sumTo-zero}
 use Rattle.numbers.proofs.Equations.{places-is}
+use Rattle.numbers.proofs.PartLaws.{cols-long, part-at, part-long, part-room, starts-at, starts-long}
 use Rattle.lattice.specs.Grid.{Limits}
 use Rattle.lattice.specs.Lattice.{FullLattice}
 use Rattle.lattice.specs.Levels.{lineAt}
@@ -41,11 +42,9 @@ use Rattle.store.proofs.PlaceLaws.{puts-is}
 use Rattle.store.proofs.ListTheorem.{values-load}
 use Rattle.store.proofs.SpaceLaws.{lawful}
 use Rattle.store.proofs.LandedLaws.{set-up-laid}
-use Rattle.store.proofs.PartLaws.{part-room}
 use Rattle.store.proofs.RangeLaws.{ranges}
 use Rattle.store.proofs.StoreLaws.{store-book, chain-most}
 use Rattle.store.proofs.WorkLaws.{look-list, laid-double, rest-double}
-use Rattle.store.proofs.RowParts.{part-at, starts-long, starts-at, cols-long, part-long}
 
 module _ (l : FullLattice) (ch : Choice) (m : ℕ) (b : Store) (enough : Enough l ch m (sizes b)) (eps : List Float) where
   -- THE STRUCTURE IS THE LATTICE'S

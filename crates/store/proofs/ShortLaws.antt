@@ -19,7 +19,7 @@ use Rattle.store.specs.declared.Choice.{Choice}
 use Rattle.store.specs.declared.Choice.the-variants.{Galerkin, Rediscretized}
 use Rattle.store.specs.declared.needs.Lengths.{Lengths}
 use Rattle.store.specs.declared.needs.Needs.{Needs}
-use Rattle.store.proofs.SizeLaws.{turned-off}
+use Rattle.store.proofs.ColumnLaws.{turned-off}
 
 -- ---- six lists
 

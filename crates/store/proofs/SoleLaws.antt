@@ -12,6 +12,7 @@ use Rattle.numbers.specs.Places.{setNumber}
 use Rattle.numbers.specs.Lists.{rows, allFinite, readFrom}
 use Rattle.numbers.specs.Terms.{Term, numbersOf, LaidRows}
 use Rattle.numbers.proofs.ListLaws.{rows-agree}
+use Rattle.numbers.proofs.PartLaws.{laid-zero}
 use Rattle.lattice.specs.Grid.{Limits, unknownsOf}
 use Rattle.lattice.specs.Lattice.{FullLattice}
 use Rattle.operators.specs.LevelLists.{edgesOn}
@@ -26,7 +27,7 @@ use Rattle.store.specs.PhaseSteps.{SoleLeft}
 use Rattle.store.specs.declared.Choice.{Choice}
 use Rattle.store.specs.declared.Choice.the-variants.{Galerkin, Rediscretized}
 use Rattle.operators.proofs.Equations.{rediscretized-first}
-use Rattle.store.proofs.StepLaws.{laid-zero, operators-step, operator-first}
+use Rattle.store.proofs.StepLaws.{operators-step, operator-first}
 
 pub operator-at-first : (l : FullLattice) (ch : Choice) (f : ℕ → C64) (r : ℕ) → operatorAt l ch f 0 r ≡ stencilRow l f r
 operator-at-first l Galerkin f r = galerkin-first l f r

@@ -1,22 +1,23 @@
 -- The laws of the store's rows, and demand 3's theorem for them. Assumes nothing.
-use Prim.Native.Nat.{ℕ, zero, suc, _+_, _-_, _*_, _/_, _≤_, _<_}
+use Prim.Native.Nat.{ℕ, zero, suc, _+_, _*_, _/_, _≤_, _<_}
 use mathlib.Core.Path.{_≡_, refl, sym, ap, subst, _∙_}
-use mathlib.Core.Logic.{_⊎_, inl, inr, ⊎-elim}
+use mathlib.Core.Logic.{inl, inr, ⊎-elim}
 use mathlib.Core.List.{List, _∷_, _++_, []}
 use mathlib.Core.Option.{Option, none, some}
 use native.Mathlib.Omega.{arith}
 use lib.Dec.{ltb}
 use borrow.Author.Tests.{le-ltb, ltb-true}
 use Rattle.numbers.specs.declared.C64.{C64}
-use Rattle.numbers.specs.Lists.{In}
+use Rattle.numbers.specs.Lists.{tabulate, In}
 use Rattle.numbers.proofs.MemberLaws.{in-append}
 use Rattle.numbers.proofs.SumLaws.{sumTo-zero}
 use Rattle.numbers.proofs.StoredLaws.{start-room}
+use Rattle.numbers.proofs.PartLaws.{part-room}
+use Rattle.numbers.proofs.TransposedLaws.{in-tabulate}
 use Rattle.lattice.specs.Lattice.{FullLattice}
 use Rattle.operators.specs.LevelLists.{edgesOn}
 use Rattle.store.specs.Space.{Look}
 use Rattle.store.specs.Plan.{Laws, Free, Room, Climbing}
-use Rattle.store.specs.Counted.{counted}
 use Rattle.store.specs.Book.{EditLaws, Done, outcome, after, answers, setUp, change, note, Distinct, SameChanges, AllDone}
 use Rattle.store.specs.Store.{Store, Sizes, sizes}
 use Rattle.store.specs.Places.{Place, Has, space, endsAt, permittivitiesAt, forwardStartsAt, forwardColumnsAt, forwardValuesAt, turnedStartsAt, turnedColumnsAt, turnedValuesAt, operatorStartsAt, operatorColumnsAt, operatorValuesAt, scalingAt}
@@ -28,10 +29,9 @@ use Rattle.store.specs.Rows.{Row, coarse, averaged, forward, turned, vol
 use Rattle.store.specs.Changes.{Change, Why, NoEdge, changes}
 use Rattle.store.proofs.TestLaws.{bool?}
 use Rattle.store.proofs.PlanLaws.{in-stands}
-use Rattle.store.proofs.Ranking.{in-counted, Ordered, ordered-append, ordered-counted, Ranked, ranked-rising, ranked-climbing}
+use Rattle.store.proofs.Ranking.{Ordered, ordered-append, ordered-tabulate, Ranked, ranked-rising, ranked-climbing}
 use Rattle.store.proofs.ListTheorem.{said-laws, store-is-book, any-order}
 use Rattle.store.proofs.SpaceLaws.{lawful}
-use Rattle.store.proofs.PartLaws.{part-room}
 use Rattle.store.proofs.SpotLaws.{each-in, cells-agree}
 use Rattle.store.proofs.LocalLaws.{numbers-local}
 use Rattle.store.proofs.RankLaws.{Ranges, Re, Valid, full-in, rowRank, rowNumber, rankOf, numberOf, eps-at, spot-stands, spot-below}
@@ -90,7 +90,7 @@ module _ (l : FullLattice) (ch : Choice) (m : ℕ) where
 
   pub stands : (r : Row) → In r (full l ch m) → (p : Place) → In p (writes l ch m r) → (rank p ≡ rowRank l ch m r) × (number p ≡ rowNumber l ch m r)
   stands r a p i =
-      let t = in-counted (place (kindOf l ch m r)) (2 * from l ch m r) (2 * count l ch m r) p i in
+      let t = in-tabulate (place (kindOf l ch m r)) (2 * count l ch m r) (2 * from l ch m r) p i in
       let lo : from l ch m r ≤ t .0 / 2 = omega (arith, t .1) in
       let hi : t .0 / 2 < from l ch m r + count l ch m r = omega (arith, t .2) in
       let s = spot-stands l ch m r (full-in l ch m r a) (t .0 / 2) lo hi in
@@ -121,10 +121,10 @@ module _ (rank number : Row → ℕ) where
   sorted-none : (lo hi : ℕ) → Sorted lo hi []
   sorted-none lo hi = (tt, λ q i. absurd i)
 
-  sorted-counted : (f : ℕ → Row) (n c lo hi : ℕ) → ((j : ℕ) → rank (f j) ≡ n) → ((j : ℕ) → number (f j) ≡ j) → lo ≤ n → n < hi → Sorted lo hi (counted f 0 c)
-  sorted-counted f n c lo hi e g a b = (
-    ordered-counted rank number f n 0 c e g,
-    λ q i. let t = in-counted f 0 c q i in let d : rank q ≡ n = ap rank (t .3) ∙ e (t .0) in (omega arith, omega arith),
+  sorted-tabulate : (f : ℕ → Row) (n c lo hi : ℕ) → ((j : ℕ) → rank (f j) ≡ n) → ((j : ℕ) → number (f j) ≡ j) → lo ≤ n → n < hi → Sorted lo hi (tabulate f c 0)
+  sorted-tabulate f n c lo hi e g a b = (
+    ordered-tabulate rank number f n c 0 e g,
+    λ q i. let t = in-tabulate f c 0 q i in let d : rank q ≡ n = ap rank (t .3) ∙ e (t .0) in (omega arith, omega arith),
   )
 
   sorted-append : (lo mid hi : ℕ) (rs qs : List Row) → lo ≤ mid → mid ≤ hi → Sorted lo mid rs → Sorted mid hi qs → Sorted lo hi (rs ++ qs)
@@ -142,8 +142,8 @@ module _ (l : FullLattice) (ch : Choice) (m : ℕ) where
   Rows lo hi rs = Sorted (rowRank l ch m) (rowNumber l ch m) lo hi rs
 
   -- rows of one kind
-  kind-sorted : (f : ℕ → Row) (n c hi : ℕ) → ((j : ℕ) → rowRank l ch m (f j) ≡ n) → ((j : ℕ) → rowNumber l ch m (f j) ≡ j) → n < hi → Rows n hi (counted f 0 c)
-  kind-sorted f n c hi e g b = sorted-counted (rowRank l ch m) (rowNumber l ch m) f n c n hi e g (omega arith) b
+  kind-sorted : (f : ℕ → Row) (n c hi : ℕ) → ((j : ℕ) → rowRank l ch m (f j) ≡ n) → ((j : ℕ) → rowNumber l ch m (f j) ≡ j) → n < hi → Rows n hi (tabulate f c 0)
+  kind-sorted f n c hi e g b = sorted-tabulate (rowRank l ch m) (rowNumber l ch m) f n c n hi e g (omega arith) b
 
   behind : (lo mid hi : ℕ) (rs qs : List Row) → lo ≤ mid → mid ≤ hi → Rows lo mid rs → Rows mid hi qs → Rows lo hi (rs ++ qs)
   behind = sorted-append (rowRank l ch m) (rowNumber l ch m)
@@ -155,15 +155,15 @@ module _ (l : FullLattice) (ch : Choice) (m : ℕ) where
       let k = edgesOn l (suc L) in
       let end = 8 * suc (suc L) in
       let own = sorted-only (rowRank l ch m) (rowNumber l ch m) ch in
-      behind b (b + 1) end (counted (coarse L) 0 k) _ (omega arith) (omega arith) (kind-sorted (coarse L) b k (b + 1) (λ j. refl) (λ j. refl) (omega arith))
-      (behind (b + 1) (b + 2) end (only ch (counted (averaged L) 0 k)) _ (omega arith) (omega arith)
-      (own (b + 1) (b + 2) (counted (averaged L) 0 k) (kind-sorted (averaged L) (b + 1) k (b + 2) (λ j. refl) (λ j. refl) (omega arith)))
-      (behind (b + 2) (b + 3) end (counted (forward L) 0 n) _ (omega arith) (omega arith) (kind-sorted (forward L) (b + 2) n (b + 3) (λ j. refl) (λ j. refl) (omega arith))
-      (behind (b + 3) (b + 4) end (counted (turned L) 0 k) _ (omega arith) (omega arith) (kind-sorted (turned L) (b + 3) k (b + 4) (λ j. refl) (λ j. refl) (omega arith))
-      (behind (b + 4) (b + 5) end (only ch (counted (volume L) 0 n)) _ (omega arith) (omega arith)
-      (own (b + 4) (b + 5) (counted (volume L) 0 n) (kind-sorted (volume L) (b + 4) n (b + 5) (λ j. refl) (λ j. refl) (omega arith)))
-      (behind (b + 5) (b + 6) end (only ch (counted (share L) 0 k)) _ (omega arith) (omega arith)
-      (own (b + 5) (b + 6) (counted (share L) 0 k) (kind-sorted (share L) (b + 5) k (b + 6) (λ j. refl) (λ j. refl) (omega arith)))
+      behind b (b + 1) end (tabulate (coarse L) k 0) _ (omega arith) (omega arith) (kind-sorted (coarse L) b k (b + 1) (λ j. refl) (λ j. refl) (omega arith))
+      (behind (b + 1) (b + 2) end (only ch (tabulate (averaged L) k 0)) _ (omega arith) (omega arith)
+      (own (b + 1) (b + 2) (tabulate (averaged L) k 0) (kind-sorted (averaged L) (b + 1) k (b + 2) (λ j. refl) (λ j. refl) (omega arith)))
+      (behind (b + 2) (b + 3) end (tabulate (forward L) n 0) _ (omega arith) (omega arith) (kind-sorted (forward L) (b + 2) n (b + 3) (λ j. refl) (λ j. refl) (omega arith))
+      (behind (b + 3) (b + 4) end (tabulate (turned L) k 0) _ (omega arith) (omega arith) (kind-sorted (turned L) (b + 3) k (b + 4) (λ j. refl) (λ j. refl) (omega arith))
+      (behind (b + 4) (b + 5) end (only ch (tabulate (volume L) n 0)) _ (omega arith) (omega arith)
+      (own (b + 4) (b + 5) (tabulate (volume L) n 0) (kind-sorted (volume L) (b + 4) n (b + 5) (λ j. refl) (λ j. refl) (omega arith)))
+      (behind (b + 5) (b + 6) end (only ch (tabulate (share L) k 0)) _ (omega arith) (omega arith)
+      (own (b + 5) (b + 6) (tabulate (share L) k 0) (kind-sorted (share L) (b + 5) k (b + 6) (λ j. refl) (λ j. refl) (omega arith)))
       (kind-sorted (operator (suc L)) (b + 6) k end (λ j. refl) (λ j. refl) (omega arith)))))))
 
   groups-sorted : (n : ℕ) → Rows 8 (8 * suc n) (groups l ch n)
@@ -260,7 +260,7 @@ module _ (l : FullLattice) (ch : Choice) (m : ℕ) (w : Ranges l) (h : Sizes) (e
   room p s =
       let t = in-stands (rules l ch m) (full l ch m) p s in
       let r = t .0 in
-      let u = in-counted (place (kindOf l ch m r)) (2 * from l ch m r) (2 * count l ch m r) p (t .2) in
+      let u = in-tabulate (place (kindOf l ch m r)) (2 * count l ch m r) (2 * from l ch m r) p (t .2) in
       rw (u .3) (has-place (kindOf l ch m r) (u .0) (omega (arith, u .2, row-most l ch m r (full-in l ch m r (t .1)))))
 
   -- ---- the given permittivities: no row writes them

@@ -15,12 +15,13 @@ use Rattle.numbers.specs.declared.C64.{C64}
 use Rattle.numbers.specs.Complex.{noNumber, zeroNumber, oneNumber}
 use Rattle.numbers.specs.Collect.{summedAt}
 use Rattle.numbers.specs.Places.{numberAt}
-use Rattle.numbers.specs.Lists.{In, Rises, contains, rows, laidNumbers, startOf, startsOf}
-use Rattle.numbers.specs.Terms.{Term, columnsOf, numbersOf, weightsAt, Stored}
+use Rattle.numbers.specs.Lists.{In, Rises, contains, rows, laidNumbers}
+use Rattle.numbers.specs.Terms.{Term, columnsOf, weightsAt, Stored}
 use Rattle.numbers.proofs.ListLaws.{laid-numbers-length}
 use Rattle.numbers.proofs.SumLaws.{sumTo-zero}
 use Rattle.numbers.proofs.TabulateLaws.{tabulate-at-0}
-use Rattle.numbers.proofs.TransposedLaws.{mem-in, starts-same, columns-same, stored-start}
+use Rattle.numbers.proofs.TransposedLaws.{mem-in, stored-start}
+use Rattle.numbers.proofs.PartLaws.{part-number}
 use Rattle.lattice.specs.Check.{Verdict, accepted, refused, isSound, checkOf}
 use Rattle.lattice.specs.Grid.{Limits}
 use Rattle.lattice.specs.Lattice.{FullLattice}
@@ -38,18 +39,16 @@ use Rattle.operators.proofs.RangeLaws.{first-reads-low, level-edges}
 use Rattle.operators.proofs.RowMembers.{Via}
 use Rattle.operators.proofs.StencilLaws.{stencil-local}
 use Rattle.store.specs.Store.{Store, sizes, zeroed}
-use Rattle.store.specs.Layout.{operatorAt, operatorCols, nextEdges, forwardCount, turnedCount, storedCount, scaleCount, firstStored, epsOff, averagedOff, forwardOff, turnedOff, operatorOff, scaleOff, Enough}
+use Rattle.store.specs.Layout.{operatorAt, nextEdges, forwardCount, turnedCount, storedCount, scaleCount, firstStored, epsOff, averagedOff, forwardOff, turnedOff, operatorOff, scaleOff, Enough}
 use Rattle.store.specs.Setup.{Input, fullOf, transfersOf, Result, result, unless, epsPart, averagedPart, forwardNumbers, turnedNumbers, operatorStartsOf, operatorColsOf, operatorNumbers, scalePart, filled, allTo, levelFine, structureOf, setupOf}
 use Rattle.store.specs.Phases.{forwardPart, turnedPart, operatorPart, TransfersIn}
 use Rattle.store.specs.declared.Choice.{Choice}
 use Rattle.store.specs.declared.Choice.the-variants.{Galerkin, Rediscretized}
 use Rattle.store.proofs.CallLaws.{limits-of, enough-of}
-use Rattle.store.proofs.FilledLaws.{averaged-long, forward-long, turned-long, operator-long, scale-long, eps-number}
-use Rattle.store.proofs.RowParts.{part-number}
+use Rattle.store.proofs.FilledLaws.{eps-number}
 use Rattle.store.proofs.SeamLaws.{part-there, transfers-in}
 use Rattle.store.proofs.ShortLaws.{transfer-room}
-use Rattle.store.proofs.SizeLaws.{storedRows, ostarts-long, ocols-long, onumbers-long, edges-few, operator-columns, operator-count, operator-few, ostarts-low, operator-low}
-use Rattle.store.proofs.StepLaws.{stored-later}
+use Rattle.store.proofs.SizeLaws.{storedRows, ostarts-long, ocols-long, onumbers-long, edges-few, operator-count, operator-few, ostarts-low, operator-low, averaged-long, fnumbers-long, tnumbers-long, scale-long, stored-later, rows-stored, count-stored, starts-stored, columns-stored, numbers-stored}
 use Rattle.store.proofs.VerdictLaws.{unless-sound, unless-told}
 
 -- ---- an accepted setup
@@ -146,16 +145,11 @@ module _ {l : FullLattice} {ch : Choice} {m : ℕ} {f : ℕ → C64} {s t : Stor
   operator-there L z h =
       let n = edgesOn l L in
       let A = operatorAt l ch f L in
-      let cols = operatorCols l ch L in
       let many = operator-count l ch f L in
-      let es : operatorStartsOf l ch m L ≡ startsOf A n = rw z (sym (starts-same A cols n (λ r b. operator-columns l ch f L r))) in
-      let ec : operatorColsOf l ch m L ≡ columnsOf (rows A n) = rw z (sym (columns-same A cols n (λ r b. operator-columns l ch f L r))) in
-      let ex : operatorNumbers l ch m f L ≡ numbersOf (rows A n) = rw z refl in
-      let er : storedRows l ch m L ≡ n + 1 = rw z refl in
-      let et : storedCount l ch m L ≡ startOf A n = rw z (sym many) in
       rw (u .is)
-      (part-there (operatorStartsOf l ch m) (operatorColsOf l ch m) (operatorNumbers l ch m f) (storedRows l ch m) (storedCount l ch m)
-      (ostarts-long l ch m) (ocols-long l ch m) (onumbers-long l ch m f) (s .operatorStarts) (s .operatorColumns) (s .operatorValues) L A n es ec ex er et
+      (part-there (operatorStartsOf l ch m) (operatorColsOf l ch m) (operatorNumbers l ch m f) (storedRows l m) (storedCount l ch m)
+      (ostarts-long l ch m) (ocols-long l ch m) (onumbers-long l ch m f) (s .operatorStarts) (s .operatorColumns) (s .operatorValues) L A n
+      (starts-stored l m L z ch f) (columns-stored l m L z ch f) (numbers-stored l m L z ch f) (rows-stored l m L z) (count-stored l m L z ch ∙ sym many)
       (suc m) (omega arith) (u .enough .operator-starts) (u .enough .operator-columns) (u .enough .operator-values)
       (omega (arith, u .deep, ostarts-low l (u .limits) m L)) (omega (arith, u .deep, operator-low l (u .limits) ch m L))
       n (λ r c b i. names-low l (u .limits) ch f L r c b i) (edges-few l (u .limits) L) (edges-few l (u .limits) L) (omega (arith, many, operator-few l (u .limits) ch L)))
@@ -266,12 +260,12 @@ module _ {l : FullLattice} {ch : Choice} {m : ℕ} {f : ℕ → C64} {s t : Stor
             (part-number (averagedPart l f) (nextEdges l) (averaged-long l f) front (epsOff l (suc m)) m
             (omega (arith, v .enough .eps-room, laid-numbers-length (s .permittivities) 0 (rows (epsPart l f) (suc m)))) L q (averagedOff l m L + q) noNumber (omega arith) h b);
         forward = λ L q h b.
-            rw (u .is) (part-number (forwardNumbers l f) (forwardCount l) (forward-long l f) (s .forwardValues) 0 m (omega (arith, u .enough .forward-values)) L q (forwardOff l L + q) noNumber (omega arith) h b);
+            rw (u .is) (part-number (forwardNumbers l f) (forwardCount l) (fnumbers-long l f) (s .forwardValues) 0 m (omega (arith, u .enough .forward-values)) L q (forwardOff l L + q) noNumber (omega arith) h b);
         turned = λ L q h b.
-            rw (u .is) (part-number (turnedNumbers l f) (turnedCount l) (turned-long l f) (s .turnedValues) 0 m (omega (arith, u .enough .turned-values)) L q (turnedOff l L + q) noNumber (omega arith) h b);
+            rw (u .is) (part-number (turnedNumbers l f) (turnedCount l) (tnumbers-long l f) (s .turnedValues) 0 m (omega (arith, u .enough .turned-values)) L q (turnedOff l L + q) noNumber (omega arith) h b);
         operator = λ L q h b.
             rw (u .is)
-            (part-number (operatorNumbers l ch m f) (storedCount l ch m) (operator-long l f ch m) (s .operatorValues) 0 (suc m) (omega (arith, u .enough .operator-values)) L q (operatorOff l ch m L + q)
+            (part-number (operatorNumbers l ch m f) (storedCount l ch m) (onumbers-long l ch m f) (s .operatorValues) 0 (suc m) (omega (arith, u .enough .operator-values)) L q (operatorOff l ch m L + q)
             noNumber (omega arith) (omega arith) b);
         scaling = λ e L q h b.
             let v = chosen u e in

@@ -27,9 +27,9 @@ use Rattle.store.specs.Calls.{matches, endsMatch, transferMatches, level
 use Rattle.store.proofs.TestLaws.{and-both}
 use Rattle.store.proofs.PlanLaws.{in-stands, run-keeps}
 use Rattle.store.proofs.RangeLaws.{ranges}
-use Rattle.store.proofs.RowParts.{starts-long, starts-at, cols-long}
 use Rattle.store.proofs.StoreLaws.{rank, rank-some, stands, laws}
 use Rattle.store.proofs.VerdictLaws.{all-pass, pass-all}
+use Rattle.numbers.proofs.PartLaws.{cols-long, starts-at, starts-long}
 
 -- ---- a store with the lattice's structure passes
 

@@ -2,12 +2,11 @@
 -- Assumes nothing.
 use Prim.Native.Nat.{ℕ, suc, _+_, _*_, _≤_, _<_, _^_}
 use mathlib.Core.Path.{_≡_, refl, sym, ap, _∙_}
-use mathlib.Core.Bool.{Bool, true, false}
+use mathlib.Core.Bool.{Bool}
 use mathlib.Core.List.{List, _++_}
 use native.Mathlib.Omega.{arith}
 use lib.ListN.{length, getD, set}
 use lib.Ieee.{Float}
-use borrow.Author.Tests.{eq-eqb, ne-eqb}
 use Rattle.numbers.specs.declared.C64.{C64}
 use Rattle.numbers.specs.declared.terms.Part.{Part}
 use Rattle.numbers.specs.Complex.{noNumber}
@@ -18,6 +17,7 @@ use Rattle.numbers.proofs.ListLaws.{laid-length, laid-numbers-length, laid-numb
 use Rattle.numbers.proofs.SumLaws.{sumTo-zero, sumTo-suc}
 use Rattle.numbers.proofs.TabulateLaws.{length-tabulate, tabulate-at-0}
 use Rattle.numbers.proofs.TransposedLaws.{starts-same, columns-same}
+use Rattle.numbers.proofs.PartLaws.{laid-part, part-room}
 use Rattle.lattice.specs.declared.line.Line.{Line}
 use Rattle.lattice.specs.declared.levels.Three.{Three}
 use Rattle.lattice.specs.Grid.{Limits}
@@ -37,8 +37,8 @@ use Rattle.store.specs.FillSteps.{offsetsAt, behindOf, EpsIn, TransferLe
 use Rattle.store.specs.declared.transfers.Offsets.{Offsets}
 use Rattle.operators.proofs.Equations.{epsAt-zero}
 use Rattle.store.proofs.LineLaws.{both-lines, lines-two}
-use Rattle.store.proofs.ListParts.{part-room, laid-next}
-use Rattle.store.proofs.SizeLaws.{forward-columns, turned-columns, turned-many, fstarts-long, fcols-long, tstarts-long, tcols-long, eps-long, fnumbers-long, tnumbers-long, edges-few, forward-few, eps-low, starts-low, tstarts-low, forward-low, turned-low}
+use Rattle.store.proofs.SizeLaws.{fstarts-long, fcols-long, tstarts-long, tcols-long, eps-long, fnumbers-long, tnumbers-long, edges-few, forward-few, eps-low, starts-low, tstarts-low, forward-low, turned-low}
+use Rattle.store.proofs.ColumnLaws.{forward-cols-at, turned-cols-at, turned-many}
 
 -- ---- one level
 
@@ -51,11 +51,11 @@ module _ (l : FullLattice) (f : ℕ → C64) (L : ℕ) {eps : List Float} {ss cs
       let k = edgesOn l (suc L) in
       record {
         eps-are = w .eps-are;
-        starts-are = w .forward-are .starts-are ∙ ap (laid ss (startsOff (edgesOn l) L)) (starts-same (forwardAt l f L) (forwardCols l L) n (λ r h. forward-columns l f L r));
-        columns-are = w .forward-are .columns-are ∙ ap (laid cs (forwardOff l L)) (columns-same (forwardAt l f L) (forwardCols l L) n (λ r h. forward-columns l f L r));
+        starts-are = w .forward-are .starts-are ∙ ap (laid ss (startsOff (edgesOn l) L)) (starts-same (forwardAt l f L) (forwardCols l L) n (λ r h. forward-cols-at l f L r));
+        columns-are = w .forward-are .columns-are ∙ ap (laid cs (forwardOff l L)) (columns-same (forwardAt l f L) (forwardCols l L) n (λ r h. forward-cols-at l f L r));
         values-are = w .forward-are .numbers-are;
-        tstarts-are = w .turned-are .starts-are ∙ ap (laid ts (startsOff (nextEdges l) L)) (starts-same (turnedAt l f L) (turnedCols l L) k (λ r h. turned-columns l f L r));
-        tcolumns-are = w .turned-are .columns-are ∙ ap (laid us (turnedOff l L)) (columns-same (turnedAt l f L) (turnedCols l L) k (λ r h. turned-columns l f L r));
+        tstarts-are = w .turned-are .starts-are ∙ ap (laid ts (startsOff (nextEdges l) L)) (starts-same (turnedAt l f L) (turnedCols l L) k (λ r h. turned-cols-at l f L r));
+        tcolumns-are = w .turned-are .columns-are ∙ ap (laid us (turnedOff l L)) (columns-same (turnedAt l f L) (turnedCols l L) k (λ r h. turned-cols-at l f L r));
         tvalues-are = w .turned-are .numbers-are;
       }
 
@@ -186,13 +186,13 @@ module _ (l : FullLattice) (f : ℕ → C64) where
         → TransferLeft l f L eps ss cs xs ts us ys eps′ ss′ cs′ xs′ ts′ us′ ys′ → TransfersLeft l f (suc L) eps₀ ss₀ cs₀ xs₀ ts₀ us₀ ys₀ eps′ ss′ cs′ xs′ ts′ us′ ys′
     transfers-turn w =
         record {
-          eps-are = laid-next setNumber eps₀ (epsPart l f) (edgesOn l) (eps-long l f) (suc L) (u .eps-are) (w .eps-are);
-          starts-are = laid-next set ss₀ (forwardStartsOf l) (λ i. edgesOn l i + 1) (fstarts-long l) L (u .starts-are) (w .starts-are);
-          columns-are = laid-next set cs₀ (forwardColsOf l) (forwardCount l) (fcols-long l) L (u .columns-are) (w .columns-are);
-          values-are = laid-next setNumber xs₀ (forwardNumbers l f) (forwardCount l) (fnumbers-long l f) L (u .values-are) (w .values-are);
-          tstarts-are = laid-next set ts₀ (turnedStartsOf l) (λ i. nextEdges l i + 1) (tstarts-long l) L (u .tstarts-are) (w .tstarts-are);
-          tcolumns-are = laid-next set us₀ (turnedColsOf l) (turnedCount l) (tcols-long l) L (u .tcolumns-are) (w .tcolumns-are);
-          tvalues-are = laid-next setNumber ys₀ (turnedNumbers l f) (turnedCount l) (tnumbers-long l f) L (u .tvalues-are) (w .tvalues-are);
+          eps-are = laid-part setNumber eps₀ (epsPart l f) (edgesOn l) (eps-long l f) (suc L) (u .eps-are) (w .eps-are);
+          starts-are = laid-part set ss₀ (forwardStartsOf l) (λ i. edgesOn l i + 1) (fstarts-long l) L (u .starts-are) (w .starts-are);
+          columns-are = laid-part set cs₀ (forwardColsOf l) (forwardCount l) (fcols-long l) L (u .columns-are) (w .columns-are);
+          values-are = laid-part setNumber xs₀ (forwardNumbers l f) (forwardCount l) (fnumbers-long l f) L (u .values-are) (w .values-are);
+          tstarts-are = laid-part set ts₀ (turnedStartsOf l) (λ i. nextEdges l i + 1) (tstarts-long l) L (u .tstarts-are) (w .tstarts-are);
+          tcolumns-are = laid-part set us₀ (turnedColsOf l) (turnedCount l) (tcols-long l) L (u .tcolumns-are) (w .tcolumns-are);
+          tvalues-are = laid-part setNumber ys₀ (turnedNumbers l f) (turnedCount l) (tnumbers-long l f) L (u .tvalues-are) (w .tvalues-are);
         }
 
     -- how long the lists are

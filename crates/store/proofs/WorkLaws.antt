@@ -32,7 +32,6 @@ use Rattle.operators.specs.Levels.{forwardAt, turnedAt, galerkinAt, averagedOn,
 use Rattle.operators.proofs.ColumnsOnly.{galerkin-same, stencil-same}
 use Rattle.store.specs.Space.{Look}
 use Rattle.store.specs.Plan.{step, rowFine, allFine}
-use Rattle.store.specs.Counted.{counted}
 use Rattle.store.specs.Store.{Store, sizes}
 use Rattle.store.specs.Places.{Place, get, space, endsAt, permittivitiesAt, forwardStartsAt, forwardColumnsAt, forwardValuesAt, turnedStartsAt, turnedColumnsAt, turnedValuesAt, operatorStartsAt, operatorColumnsAt, operatorValuesAt, scalingAt}
 use Rattle.store.specs.Spots.{Kind, permittivity, forwards, turneds, entries, scales, place, doubleIn, numberIn, doubleOf, partOf, laidFrom, finitePlace}
@@ -42,7 +41,6 @@ use Rattle.store.specs.declared.Choice.the-variants.{Galerkin, Rediscret
 use Rattle.store.specs.Rows.{Row, coarse, averaged, forward, turned, volume, share, operator, dressed, kindOf, from, count, epsIn, averagedIn, forwardIn, turnedIn, operatorIn, operatorRule, numbers, rules}
 use Rattle.store.specs.Work.{listOf, withList, RowsAt, Structured}
 use Rattle.store.specs.Phases.{forwardPart, turnedPart, operatorPart}
-use Rattle.store.proofs.Ranking.{in-counted, counted-in}
 use Rattle.store.proofs.PlanWork.{step-is}
 use Rattle.store.proofs.SpaceLaws.{lawful}
 use Rattle.store.proofs.DressedLaws.{columns-dressed}
@@ -51,6 +49,7 @@ use Rattle.store.proofs.LocalLaws.{operator-in-cols, turned-in-cols}
 use Rattle.store.proofs.ColumnLaws.{forward-cols-at, turned-cols-at, operator-cols-at, turned-long}
 use Rattle.operators.proofs.Equations.{galerkinColumns-is, galerkinAt-suc, rediscretizedAt-is}
 use Rattle.numbers.proofs.Laws.{finite-both}
+use Rattle.numbers.proofs.TransposedLaws.{in-tabulate, tabulate-in}
 use Rattle.store.proofs.TestLaws.{and-assoc}
 
 -- ---- what a look finds in a list
@@ -272,9 +271,9 @@ step-laid l ch m s r room =
     let ys = laidNumbers xs a vs in
     let long : length vs ≡ n = numbers-long l ch m (get s) r in
     step-is (rules l ch m) lawful s (withList s k ys) r (with-sizes s k ys (laid-numbers-length xs a vs))
-    (λ p i. let t = in-counted (place k) (2 * a) (2 * n) p i in
+    (λ p i. let t = in-tabulate (place k) (2 * n) (2 * a) p i in
     rw (t .3) (place-laid (get (withList s k ys)) k vs a (t .0) (with-list s k ys (t .0) ∙ laid-double xs a vs (t .0) (omega arith) (t .1) (omega (arith, t .2)))))
-    (λ p i. with-other s k ys p (λ j e. rest-double xs a vs j (λ lo hi. i (rw e (counted-in (place k) (2 * a) (2 * n) j lo (omega arith))))))
+    (λ p i. with-other s k ys p (λ j e. rest-double xs a vs j (λ lo hi. i (rw e (tabulate-in (place k) (2 * n) (2 * a) j lo (omega arith))))))
 
 -- ---- whether a row is finite
 
@@ -287,19 +286,22 @@ place-fine entries vs a j = refl
 place-fine scales vs a j = refl
 
 part-fine : (l : FullLattice) (ch : Choice) (m : ℕ) (k : Kind) (vs : List C64) (a n i : ℕ)
-    → allFine (rules l ch m) (counted (place k) (2 * (a + i)) (2 * n)) (laidFrom vs a) ≡ allFinite (tabulate (λ q. getD vs q noNumber) n i)
-unfolding counted allFine
-part-fine l ch m k vs a zero i = sym (ap allFinite (tabulate-zero (λ q. getD vs q noNumber) i) ∙ allFinite-nil)
+    → allFine (rules l ch m) (tabulate (place k) (2 * n) (2 * (a + i))) (laidFrom vs a) ≡ allFinite (tabulate (λ q. getD vs q noNumber) n i)
+unfolding allFine
+part-fine l ch m k vs a zero i =
+    ap (λ (ps : List Place). allFine (rules l ch m) ps (laidFrom vs a)) (tabulate-zero (place k) (2 * (a + i))) ∙ sym (ap allFinite (tabulate-zero (λ q. getD vs q noNumber) i) ∙ allFinite-nil)
 part-fine l ch m k vs a (suc n) i =
     let e : 2 * suc n ≡ suc (suc (2 * n)) = omega arith in
-    let g : 2 * (a + i) + 1 + 1 ≡ 2 * (a + suc i) = omega arith in
+    let o : suc (2 * (a + i)) ≡ 2 * (a + i) + 1 = omega arith in
+    let g : suc (2 * (a + i) + 1) ≡ 2 * (a + suc i) = omega arith in
     let x : finitePlace (place k (2 * (a + i))) (laidFrom vs a (place k (2 * (a + i)))) ≡ finiteDouble (getD vs i noNumber .re) =
     place-fine k vs a (2 * (a + i)) ∙ ap finiteDouble (even-of vs a i) in
     let y : finitePlace (place k (2 * (a + i) + 1)) (laidFrom vs a (place k (2 * (a + i) + 1))) ≡ finiteDouble (getD vs i noNumber .im) =
     place-fine k vs a (2 * (a + i) + 1) ∙ ap finiteDouble (odd-of vs a i) in
     let z = getD vs i noNumber in
     let rest = allFinite (tabulate (λ q. getD vs q noNumber) n (suc i)) in
-    rw e (rw (x, y, g, part-fine l ch m k vs a n (suc i)) (and-assoc (finiteDouble (z .re)) (finiteDouble (z .im)) rest ∙ ap (λ (b : Bool). b && rest) (sym (finite-both z))))
+    rw (e, tabulate-suc (place k) (suc (2 * n)) (2 * (a + i)), o, tabulate-suc (place k) (2 * n) (2 * (a + i) + 1), g)
+    (rw (x, y, part-fine l ch m k vs a n (suc i)) (and-assoc (finiteDouble (z .re)) (finiteDouble (z .im)) rest ∙ ap (λ (b : Bool). b && rest) (sym (finite-both z))))
     ∙ sym (ap allFinite (tabulate-suc (λ q. getD vs q noNumber) n i) ∙ allFinite-cons z (tabulate (λ q. getD vs q noNumber) n (suc i)))
 
 -- a row passes just where the numbers of its rule are finite, as the layers below test them

@@ -1,6 +1,5 @@
 pub mod Space
 pub mod Plan
-pub mod Counted
 pub mod Book
 pub mod Store
 pub mod Places

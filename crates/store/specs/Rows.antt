@@ -7,7 +7,7 @@ use lib.ListN.{length}
 use Rattle.numbers.specs.declared.C64.{C64}
 use Rattle.lattice.specs.Lattice.{FullLattice}
 use Rattle.numbers.specs.Terms.{Term}
-use Rattle.numbers.specs.Lists.{each}
+use Rattle.numbers.specs.Lists.{tabulate, each}
 use Rattle.weights.specs.TwoLevels.{twoAt}
 use Rattle.weights.specs.CoarseEps.{coarseEps, epsReads}
 use Rattle.weights.specs.Prolongation.{prolongationRow, weightReads}
@@ -22,7 +22,6 @@ use Rattle.operators.specs.Stencil.{stencilRow, stencilReads}
 use Rattle.operators.specs.Volumes.{volumeOf, inverseShare}
 use Rattle.store.specs.Space.{Look}
 use Rattle.store.specs.Plan.{Rules}
-use Rattle.store.specs.Counted.{counted}
 use Rattle.store.specs.Places.{Place, space}
 use Rattle.store.specs.Spots.{
   Kind,
@@ -183,7 +182,7 @@ module _ (l : FullLattice) (ch : Choice) (m : ℕ) where
   reading (operator L r) = operatorReading l ch m L r
 
   abbrev pub writes : Row → List Place
-  writes r = counted (place (kindOf l ch m r)) (2 * from l ch m r) (2 * count l ch m r)
+  writes r = tabulate (place (kindOf l ch m r)) (2 * count l ch m r) (2 * from l ch m r)
 
   abbrev pub reads : Row → List Place
   reads r = each cells (reading r)
@@ -210,20 +209,20 @@ only Rediscretized rs = rs
 
 abbrev pub group : FullLattice → Choice → ℕ → List Row
 group l ch L =
-    counted (coarse L) 0 (edgesOn l (suc L))
-    ++ (only ch (counted (averaged L) 0 (edgesOn l (suc L)))
-    ++ (counted (forward L) 0 (edgesOn l L)
-    ++ (counted (turned L) 0 (edgesOn l (suc L))
-    ++ (only ch (counted (volume L) 0 (edgesOn l L))
-    ++ (only ch (counted (share L) 0 (edgesOn l (suc L)))
-    ++ counted (operator (suc L)) 0 (edgesOn l (suc L)))))))
+    tabulate (coarse L) (edgesOn l (suc L)) 0
+    ++ (only ch (tabulate (averaged L) (edgesOn l (suc L)) 0)
+    ++ (tabulate (forward L) (edgesOn l L) 0
+    ++ (tabulate (turned L) (edgesOn l (suc L)) 0
+    ++ (only ch (tabulate (volume L) (edgesOn l L) 0)
+    ++ (only ch (tabulate (share L) (edgesOn l (suc L)) 0)
+    ++ tabulate (operator (suc L)) (edgesOn l (suc L)) 0)))))
 
 unfoldable pub groups : FullLattice → Choice → ℕ → List Row
 groups l ch zero = []
 groups l ch (suc m) = groups l ch m ++ group l ch m
 
 abbrev pub full : FullLattice → Choice → ℕ → List Row
-full l ch zero = counted (operator 0) 0 (edgesOn l 0)
+full l ch zero = tabulate (operator 0) (edgesOn l 0) 0
 full l ch (suc m) = groups l ch (suc m)
 
 abbrev pub rules : FullLattice → Choice → ℕ → Rules space

@@ -8,9 +8,8 @@ use lib.ListN.{getD}
 use lib.Ieee.{Float}
 use Rattle.numbers.specs.declared.C64.{C64}
 use Rattle.numbers.specs.Complex.{noNumber, finiteDouble}
-use Rattle.numbers.specs.Lists.{each}
+use Rattle.numbers.specs.Lists.{tabulate, each}
 use Rattle.store.specs.Space.{Look}
-use Rattle.store.specs.Counted.{counted}
 use Rattle.store.specs.Places.{Place, Val, space, endsAt, permittivitiesAt, forwardStartsAt, forwardColumnsAt, forwardValuesAt, turnedStartsAt, turnedColumnsAt, turnedValuesAt, operatorStartsAt, operatorColumnsAt, operatorValuesAt, scalingAt}
 
 -- the five lists of numbers
@@ -49,7 +48,7 @@ numberIn f k q = record { re = doubleIn f k (2 * q); im = doubleIn f k (2 * q + 
 
 -- n numbers from q on
 abbrev pub spotsFrom : Kind → ℕ → ℕ → List Spot
-spotsFrom k q n = counted (spot k) q n
+spotsFrom k q n = tabulate (spot k) n q
 
 -- what double j has of a number, and of numbers that stand from number a on
 unfoldable pub partOf : ℕ → C64 → Float
