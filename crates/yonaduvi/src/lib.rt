@@ -108,9 +108,9 @@ pub extern "C" fn yonaduvi_needs(
     let found = needed::setup_needs(v, xn, xh, yn, yh, zn, zh, ch, coarsest);
     let a = found.answer;
     let places = answers::needs_words(found.needs);
-    let levels = found.cells;
-    let on_axes = levels.cells;
-    let words = answers::cells_words(on_axes, levels.levels);
+    let counted = found.cells;
+    let on_axes = counted.cells;
+    let words = answers::cells_words(on_axes, counted.levels);
     answers::answer(a, out);
     answers::leave(a, needs, &places);
     answers::leave(a, counts, &words);
