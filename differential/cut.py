@@ -228,7 +228,7 @@ FAULTS = {
     "lost-wall": ("Lattice::fixed", r"a != c && ", ""),
     "unfixed-node": ("Lattice::gradient", r"!self\.node_fixed\(here\)", "true"),
     "far-neighbour": ("interpolate_line", r"Some\(ph\) => Some\(\(0, ph\)\)", "Some(ph) => Some((0, ph.inv()))"),
-    "turned-late": ("Transfer::transpose", r"cols\[\*at\] = r;", "cols[*at] = r + 1;"),
+    "turned-early": ("Transfer::transpose", r"cols\[\*at\] = r;", "cols[*at] = r.saturating_sub(1);"),
     "mean-of-two": ("coarse_eps", r"1\.0 / eps", "2.0 / eps"),
     "fixed-weighted": ("prolongation", r"if coarse\.fixed\(col\)", "if false"),
     "other-map": ("setup", r"stretched\.across", "stretched.along"),

@@ -62,11 +62,11 @@ impl Run {
         let Err(mut what) = compare(c, &mut self.counts) else {
             return Ok(());
         };
-        let mut small = c.clone();
-        if self.shrinks {
-            small = shrink::smallest(c);
-            what = compare(&small, &mut Counts::default()).err().unwrap_or(what);
+        if !self.shrinks {
+            return Err(format!("{name}, lattice {}: {what}\nthe input:\n{}", self.met, c.text()));
         }
+        let small = shrink::smallest(c);
+        what = compare(&small, &mut Counts::default()).err().unwrap_or(what);
         Err(format!("{name}, lattice {}: {what}\nthe smallest input found:\n{}", self.met, small.text()))
     }
 
