@@ -243,7 +243,7 @@ FAULTS = {
     "diagonal-everywhere": ("galerkin", r"touched\.sort_unstable\(\)", "sums[c] = c64::new(1.0, 0.0); touched.sort_unstable()"),
     "diagonal-zero": ("galerkin", r"sums\[c\] = c64::new\(1\.0, 0\.0\)", "sums[c] = zero"),
     "entry-left-out": ("galerkin", r"touched\.sort_unstable\(\)", "touched.truncate(59); touched.sort_unstable()"),
-    "walk-too-far": ("averaged_eps", r"if place >= at", "if place > at"),
+    "walk-too-short": ("averaged_eps", r"if place >= at", "if place + 2.0 >= at"),
     "grouped-mean": ("averaged_eps", r"wb \* wc \* count / inverse", "wb * wc * (count / inverse)"),
     "grouped-step": ("rediscretized_lattice", r"g\.step\(axis\) \* g\.n\(axis\) as f64 / n as f64", "g.step(axis) * (g.n(axis) as f64 / n as f64)"),
     "wall-node-once": ("rediscretized_lattice", r"2\.0 \* \(along", "1.0 * (along"),

@@ -85,7 +85,7 @@ let c = cs[q];
     "same-for-near": ("operators/src/tables.rt", "ty: word(t, 1, a, b, a == b, y),", "ty: word(t, 1, a, b, false, y),"),
     "one-weight": ("operators/src/pattern.rt", "for d in 0..n {\n        w = words::mix", "for d in 0..n % 2 {\n        w = words::mix"),
     "fixed-counted": ("operators/src/pattern.rt", "tables::row_count(t, g, fixed, p)", "tables::row_count(t, g, false, p)"),
-    "walk-too-far": ("operators/src/averaged.rt", "if place >= at {", "if place > at {"),
+    "walk-too-short": ("operators/src/averaged.rt", "if place >= at {", "if place + 2 >= at {"),
     "hat-by-difference": ("operators/src/averaged.rt", "1.0 - distance as f64 / width as f64", "(width - distance) as f64 / width as f64"),
     "wall-wraps": ("operators/src/averaged.rt", "let wy = lattice::lattice::is_wall(y);", "let wy = false;"),
     "grouped-mean": ("operators/src/averaged.rt", "numbers::real_over(w * count as f64, inverse)",
