@@ -95,52 +95,65 @@ fn accepted(a: Answer) -> bool {
     }
 }
 
-// The first n places of a list.
-fn words_lent(list: &mut [usize], n: usize) -> &mut [usize] {
-    if n <= list.len() {
-        return &mut list[0..n];
-    }
-    &mut list[0..0]
-}
-
-fn doubles_lent(list: &mut [f64], n: usize) -> &mut [f64] {
-    if n <= list.len() {
-        return &mut list[0..n];
-    }
-    &mut list[0..0]
-}
-
+// How long lent list k is.
 fn room(words: &[usize], k: usize) -> usize {
     inputs::at(words, std::num::wrapping_add_usize(inputs::ROOM, k))
+}
+
+// The front of a list that is lent as list k; none of it where it is too short.
+fn words_lent<'a>(list: &'a mut [usize], words: &[usize], k: usize) -> &'a mut [usize] {
+    let n = room(words, k);
+    if n <= list.len() {
+        return &mut list[0..n];
+    }
+    &mut list[0..0]
+}
+
+fn doubles_lent<'a>(list: &'a mut [f64], words: &[usize], k: usize) -> &'a mut [f64] {
+    let n = room(words, k);
+    if n <= list.len() {
+        return &mut list[0..n];
+    }
+    &mut list[0..0]
+}
+
+// The three lists of rows, printed.
+fn three(name: &[u8], starts: &[usize], columns: &[usize], values: &[f64], brief: bool) {
+    print(name);
+    show::words(b" starts", starts, brief);
+    print(name);
+    show::words(b" columns", columns, brief);
+    print(name);
+    show::doubles(b" values", values, brief);
 }
 
 pub fn run(words: &[usize], d: &[f64]) {
     let w = show::MARK as usize;
     let x = show::mark();
-    let mut ends_all = [w; 1024];
+    let mut ends_all = [w; 256];
     let mut eps_all = [x; 2048];
-    let mut starts_all = [w; 1024];
-    let mut columns_all = [w; 2048];
-    let mut values_all = [x; 4096];
-    let mut tstarts_all = [w; 1024];
-    let mut tcolumns_all = [w; 2048];
-    let mut tvalues_all = [x; 4096];
-    let mut ostarts_all = [w; 1024];
-    let mut ocolumns_all = [w; 8192];
-    let mut ovalues_all = [x; 16384];
+    let mut starts_all = [w; 512];
+    let mut columns_all = [w; 1024];
+    let mut values_all = [x; 2048];
+    let mut tstarts_all = [w; 512];
+    let mut tcolumns_all = [w; 1024];
+    let mut tvalues_all = [x; 2048];
+    let mut ostarts_all = [w; 512];
+    let mut ocolumns_all = [w; 4096];
+    let mut ovalues_all = [x; 8192];
     let mut scaling_all = [x; 2048];
-    let ends = words_lent(&mut ends_all, room(words, 0));
-    let eps = doubles_lent(&mut eps_all, room(words, 1));
-    let starts = words_lent(&mut starts_all, room(words, 2));
-    let columns = words_lent(&mut columns_all, room(words, 3));
-    let values = doubles_lent(&mut values_all, room(words, 4));
-    let tstarts = words_lent(&mut tstarts_all, room(words, 5));
-    let tcolumns = words_lent(&mut tcolumns_all, room(words, 6));
-    let tvalues = doubles_lent(&mut tvalues_all, room(words, 7));
-    let ostarts = words_lent(&mut ostarts_all, room(words, 8));
-    let ocolumns = words_lent(&mut ocolumns_all, room(words, 9));
-    let ovalues = doubles_lent(&mut ovalues_all, room(words, 10));
-    let scaling = doubles_lent(&mut scaling_all, room(words, 11));
+    let ends = words_lent(&mut ends_all, words, 0);
+    let eps = doubles_lent(&mut eps_all, words, 1);
+    let starts = words_lent(&mut starts_all, words, 2);
+    let columns = words_lent(&mut columns_all, words, 3);
+    let values = doubles_lent(&mut values_all, words, 4);
+    let tstarts = words_lent(&mut tstarts_all, words, 5);
+    let tcolumns = words_lent(&mut tcolumns_all, words, 6);
+    let tvalues = doubles_lent(&mut tvalues_all, words, 7);
+    let ostarts = words_lent(&mut ostarts_all, words, 8);
+    let ocolumns = words_lent(&mut ocolumns_all, words, 9);
+    let ovalues = doubles_lent(&mut ovalues_all, words, 10);
+    let scaling = doubles_lent(&mut scaling_all, words, 11);
     let needed = needs(words, d);
     let answer = setup::setup(
         inputs::lattice(words, d),
@@ -170,15 +183,9 @@ pub fn run(words: &[usize], d: &[f64]) {
     show::answer(answer);
     show::words(b"ends", ends, false);
     show::doubles(b"permittivities", eps, brief);
-    show::words(b"forward starts", starts, brief);
-    show::words(b"forward columns", columns, brief);
-    show::doubles(b"forward values", values, brief);
-    show::words(b"turned starts", tstarts, brief);
-    show::words(b"turned columns", tcolumns, brief);
-    show::doubles(b"turned values", tvalues, brief);
-    show::words(b"operator starts", ostarts, brief);
-    show::words(b"operator columns", ocolumns, brief);
-    show::doubles(b"operator values", ovalues, brief);
+    three(b"forward", starts, columns, values, brief);
+    three(b"turned", tstarts, tcolumns, tvalues, brief);
+    three(b"operator", ostarts, ocolumns, ovalues, brief);
     show::doubles(b"scaling", scaling, brief);
     if accepted(answer) {
         let c = needed.cells;

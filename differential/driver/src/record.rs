@@ -579,24 +579,27 @@ impl Recorder {
         self.sure("the same, which averaging reads, rediscretized", &c, 1, Room::Spare, (7, 1));
     }
 
-    // A share that is not finite, where every other number is: an infinite one has an inverse that is not a number; where it is not a number, the Rust stores 1
-    // and has nothing against it.
+    // A share or its inverse that is not finite, where every other number is. The inverse of an infinite share is not a number; for a share that is not a number
+    // the Rust stores 1 and has nothing against it.
     fn shares(&mut self) {
-        let share = |c: &Case| -> Option<c64> {
+        let all_finite = |lists: &[&[c64]]| lists.iter().all(|list| list.iter().all(finite));
+        let kind = |c: &Case| -> Option<usize> {
             let levels = levels_of(c, 1, 7, &c.numbers(6)).ok()?;
-            let stored = Lists::of(&levels, true);
-            let all_finite = |lists: &[&[c64]]| lists.iter().all(|list| list.iter().all(finite));
-            let z = levels.iter().find_map(|l| match (&l.transfer, &l.scaling) {
-                (Some((_, r)), Some((volumes, _))) if all_finite(&[volumes]) => r.apply(volumes).into_iter().find(|z| !finite(z)),
-                _ => None,
-            })?;
-            all_finite(&stored.numbers()[..if z.norm().is_nan() { 5 } else { 4 }]).then_some(z)
+            if !all_finite(&Lists::of(&levels, true).numbers()[..4]) {
+                return None;
+            }
+            levels.iter().find_map(|l| {
+                let (Some((_, r)), Some((volumes, inverse))) = (&l.transfer, &l.scaling) else { return None };
+                let shares = r.apply(volumes);
+                let k = (0..shares.len()).find(|&k| !finite(&shares[k]) || !finite(&inverse[k])).filter(|_| all_finite(&[volumes]))?;
+                Some(if shares[k].norm().is_nan() { 1 } else { 2 * finite(&shares[k]) as usize })
+            })
         };
         let mut random = Random::new(1);
-        let mut found = [false; 2];
+        let mut found = [false; 3];
         for turn in 0.. {
             assert!(turn < 20_000, "no such shares: {found:?}");
-            if found == [true; 2] {
+            if found == [true; 3] {
                 break;
             }
             let cells = generate::cells(&mut random, 8);
@@ -604,14 +607,13 @@ impl Recorder {
             let mut c = small(cells, kinds, random.one_of(&[0.0, 0.25]), random.one_of(&[0.0, 0.5]));
             c.lists[6].iter_mut().for_each(|x| *x = random.between(-10.0, 10.0));
             // a volume is a product of three steps: none of the operator's numbers has them all
-            let power = random.between(330.0, 342.0);
+            let power = random.between(330.0, 346.0) * random.one_of(&[1.0, -1.0]);
             (0..3).for_each(|axis| c.scalars[axis] = power.exp2());
-            let Some(z) = share(&c) else { continue };
-            let k = z.norm().is_nan() as usize;
-            if !found[k] && matches!(exact_answer(&c, 1), (7, _)) {
+            let answer = exact_answer(&c, 1);
+            if let (7, Some(k)) = (answer.0, kind(&c)) && !found[k] {
                 found[k] = true;
-                let answer = exact_answer(&c, 1);
-                self.sure(&format!("a share that is {}, rediscretized", ["infinite", "not a number"][k]), &c, 1, Room::Spare, answer);
+                let what = ["a share that is infinite", "a share that is not a number", "a share whose inverse is infinite"][k];
+                self.sure(&format!("{what}, rediscretized"), &c, 1, Room::Spare, answer);
             }
         }
     }
@@ -634,7 +636,10 @@ impl Recorder {
                 }
             };
             let [x, y, z] = [0, 1, 2].map(|a| c.cells[a]);
-            self.titled(&format!("random lattice {k}, {x} {y} {z} cells, {}", NAMES[choice]), &c, choice, if k % 4 == 0 { Room::Spare } else { Room::Exact }, false);
+            // those of many terms by digests
+            let terms = levels_of(&c, choice, 7, &c.numbers(6)).map_or(0, |levels| Lists::of(&levels, choice > 0).need()[9]);
+            let room = if k % 4 == 0 { Room::Spare } else { Room::Exact };
+            self.titled(&format!("random lattice {k}, {x} {y} {z} cells, {}", NAMES[choice]), &c, choice, room, terms > 700);
         }
     }
 }
@@ -691,7 +696,7 @@ impl Recorder {
     fn wrong_stores(&mut self) {
         let two = [2, 1, 1, 1, 1, 1];
         let rows = [(0, 0), (0, 2), (0, 3), (0, 5), (0, 6), (1, 0), (1, 2), (1, 3), (2, 0), (11, 0), (12, 0), (usize::MAX, usize::MAX)];
-        let sound = [0, 2, 4, 5, 5, 7, 8];
+        let sound = [0, 2, 4, 5, 6, 6, 8];
         self.handed("rows of two levels", 2, &two, &sound, &rows, 20, 10);
         self.handed("one number and an odd double too few", 2, &two, &sound, &rows[..8], 15, 7);
         self.handed("starts that fall", 2, &two, &[0, 4, 2, 5, 3, 7, 8], &rows[..8], 20, 10);
@@ -727,7 +732,7 @@ pub fn write(folder: &str) -> Result<(), String> {
     r.fixed();
     r.not_finite();
     r.wrong_stores();
-    r.sample(36);
+    r.sample(40);
     for (name, text) in [("stdin", &r.stdin), ("stdout", &r.stdout)] {
         std::fs::write(format!("{folder}/{name}"), text).map_err(|e| format!("{folder}/{name}: {e}"))?;
     }
