@@ -48,4 +48,7 @@ pub mod SettleLaws
 pub mod HandedLaws
 pub mod StoredConditions
 pub mod NeededLaws
+pub mod WorkedLaws
+pub mod PartRows
+pub mod ChangeLaws
 pub mod Cases

@@ -75,17 +75,17 @@ module _ {v : Verdict} {s : ℕ} (short : v ≡ numbered s) (rest : Verdict) whe
 -- ---- verdicts
 
 -- what was refused before the level count is refused without it
-and-last : (x y : Verdict) (n : ℕ) → isSound (andThen x (andThen y (accepted n))) ≡ false → andThen x y ≡ andThen x (andThen y (accepted n))
+pub and-last : (x y : Verdict) (n : ℕ) → isSound (andThen x (andThen y (accepted n))) ≡ false → andThen x y ≡ andThen x (andThen y (accepted n))
 and-last (accepted a) (accepted b) n e = absurd (false≢true (sym e))
 and-last (accepted a) (refused b p) n e = refl
 and-last (refused a p) y n e = refl
 
-unless-refused : (v : Verdict) (s : Store) (r : Result) → isSound v ≡ false → result v s ≡ unless v s r
+pub unless-refused : (v : Verdict) (s : Store) (r : Result) → isSound v ≡ false → result v s ≡ unless v s r
 unless-refused (accepted n) s r e = absurd (false≢true (sym e))
 unless-refused (refused n p) s r e = refl
 
 -- what was not refused
-and-sound : (x y : Verdict) (n : ℕ) (s : Store) (r : Result) → isSound (andThen x (andThen y (accepted n))) ≡ true → (unless (andThen x y) s r ≡ r) × (andThen x (andThen y (accepted n)) ≡ accepted n)
+pub and-sound : (x y : Verdict) (n : ℕ) (s : Store) (r : Result) → isSound (andThen x (andThen y (accepted n))) ≡ true → (unless (andThen x y) s r ≡ r) × (andThen x (andThen y (accepted n)) ≡ accepted n)
 and-sound (accepted a) (accepted b) n s r e = (refl, refl)
 and-sound (accepted a) (refused b p) n s r e = absurd (false≢true e)
 and-sound (refused a p) y n s r e = absurd (false≢true e)

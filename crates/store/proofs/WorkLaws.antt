@@ -172,7 +172,7 @@ rest-double xs a vs j n =
     ])
     ∙ sym (number-double xs j)
 
-with-sizes : (s : Store) (k : Kind) (xs : List Float) → length xs ≡ length (listOf s k) → sizes (withList s k xs) ≡ sizes s
+pub with-sizes : (s : Store) (k : Kind) (xs : List Float) → length xs ≡ length (listOf s k) → sizes (withList s k xs) ≡ sizes s
 with-sizes s permittivity xs e = λ i. record { ends = length (s .ends); permittivities = e i; forwardStarts = length (s .forwardStarts); forwardColumns = length (s .forwardColumns); forwardValues = length (s .forwardValues); turnedStarts = length (s .turnedStarts); turnedColumns = length (s .turnedColumns); turnedValues = length (s .turnedValues); operatorStarts = length (s .operatorStarts); operatorColumns = length (s .operatorColumns); operatorValues = length (s .operatorValues); scaling = length (s .scaling) }
 with-sizes s forwards xs e = λ i. record { ends = length (s .ends); permittivities = length (s .permittivities); forwardStarts = length (s .forwardStarts); forwardColumns = length (s .forwardColumns); forwardValues = e i; turnedStarts = length (s .turnedStarts); turnedColumns = length (s .turnedColumns); turnedValues = length (s .turnedValues); operatorStarts = length (s .operatorStarts); operatorColumns = length (s .operatorColumns); operatorValues = length (s .operatorValues); scaling = length (s .scaling) }
 with-sizes s turneds xs e = λ i. record { ends = length (s .ends); permittivities = length (s .permittivities); forwardStarts = length (s .forwardStarts); forwardColumns = length (s .forwardColumns); forwardValues = length (s .forwardValues); turnedStarts = length (s .turnedStarts); turnedColumns = length (s .turnedColumns); turnedValues = e i; operatorStarts = length (s .operatorStarts); operatorColumns = length (s .operatorColumns); operatorValues = length (s .operatorValues); scaling = length (s .scaling) }

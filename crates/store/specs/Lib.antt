@@ -20,4 +20,8 @@ pub mod Reach
 pub mod Work
 pub mod Load
 pub mod Calls
+pub mod Parts
+pub mod Worked
+pub mod Renewed
+pub mod ChangeSteps
 pub mod Cases
