@@ -100,7 +100,7 @@ let c = cs[q];
     "averaged-from-first": ("store/src/rediscretized_levels.rt", "        from = to;\n", ""),
     "turned-part-kept": ("store/src/transfers.rt", "ts: o.ts + m + 1,", "ts: o.ts,"),
     "last-bad-level": ("store/src/lines.rt", "if bad == 0 {", "if bad == 0 || !ok {"),
-    "odd-double-counted": ("store/src/needs.rt", "n.eps <= h.eps / 2;", "n.eps <= (h.eps + 1) / 2;"),
+    "full-list-refused": ("store/src/needs.rt", "n.eps <= h.eps / 2;", "n.eps < h.eps / 2;"),
     "one-list-kept": ("store/src/setup.rt", "    zeros::zero_three(ostarts, ocolumns, ovalues);\n", ""),
     "finest-stretches": ("store/src/scaling.rt", "volumes::volumes(own, &stretches, scaling, k)", "volumes::volumes(own, st, scaling, k)"),
     "row-behind-the-last": ("store/src/handed.rt", "if n <= row {", "if n < row {"),
