@@ -1,4 +1,4 @@
--- Changes of the store (document 01, Changes): each sets one permittivity of level 0. Assumes nothing: these are definitions.
+-- Changes of the store (docs/SPECIFICATION.md, 12): each sets one permittivity of level 0. Assumes nothing: these are definitions.
 use Prim.Native.Nat.{ℕ}
 use mathlib.Core.List.{List, [], _∷_}
 use mathlib.Core.Option.{Option, none, some}

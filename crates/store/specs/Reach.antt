@@ -1,4 +1,4 @@
--- The rows that a change reaches, by flags of each level (document 01, Changes): structure alone. Edge e of level 0 is changed. `proofs/ReachLaws` shows that these
+-- The rows that a change reaches, by flags of each level (docs/SPECIFICATION.md, 12): structure alone. Edge e of level 0 is changed. `proofs/ReachLaws` shows that these
 -- are just the rows that the plan's `reached` names. Assumes nothing: these are definitions.
 use Prim.Native.Nat.{ℕ, zero, suc}
 use mathlib.Core.List.{List, [], _∷_}

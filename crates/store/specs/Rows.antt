@@ -1,4 +1,4 @@
--- The rows of the store and their rules (document 01, Changes): each row is a run of numbers of one list, and its rule sees the store only through a look.
+-- The rows of the store and their rules (docs/SPECIFICATION.md, 12): each row is a run of numbers of one list, and its rule sees the store only through a look.
 -- Assumes nothing: these are definitions.
 use Prim.Native.Nat.{ℕ, zero, suc, _+_, _*_}
 use mathlib.Core.List.{List, [], _∷_, _++_, map}
