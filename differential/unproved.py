@@ -127,6 +127,93 @@ let c = cs[q];
     "end-for-count": ("yonaduvi/src/rows.rt", "k * (j - i))", "k * j)"),
     "odd-double-room": ("yonaduvi/src/lib.rt", "let room = values.len() / 2;", "let room = (values.len() + 1) / 2;"),
     "one-turned": ("yonaduvi/src/lib.rt", "turned != 0", "turned == 1"),
+    "deeper-levels-left": ("changes/src/renew.rt", "for level in 0..m {", "for level in 0..1 {"),
+    "coarse-permittivities-left": ("changes/src/reach.rt", "let mut at = raise_bits(flags, base, k, &eps);", "let mut at = base + k;"),
+    "averaged-left": ("changes/src/reach.rt", "at = raise_bits(flags, at, only, &averaged);", "at = at + only;"),
+    "forward-rows-left": ("changes/src/reach.rt", "at = raise_bits(flags, at, n, &forward);", "at = at + n;"),
+    "turned-rows-left": ("changes/src/reach.rt", "raise_bits(flags, at, k, &turned)", "at + k"),
+    "shares-left": ("changes/src/reach.rt", "at = raise_bits(flags, at + volumes, only, &turned);", "at = at + volumes + only;"),
+    "sole-rows-left": ("changes/src/reach.rt", "raise_bits(flags, 0, n, &operator)", "n"),
+    "first-operator-left": ("changes/src/reach.rt", "    flags::lattice_flags(l, st, flags, out);\n", ""),
+    "forward-by-coarse-left": ("changes/src/reach.rt", "    flags::stored_flags(a.forward, n, starts, columns, &eps, &mut forward);\n", ""),
+    "operator-by-computed-rows-left": ("changes/src/reach.rt", "        flags::first_flags(l, st, flags, out);\n", ""),
+    "operator-by-forward-left": ("changes/src/reach.rt", "    flags::stored_flags(o, n, ostarts, ocolumns, flags, out);\n", ""),
+    "operator-by-fine-left": ("changes/src/reach.rt", "let mut leads = h.operator;", "let mut leads = [false; EDGES];"),
+    "rediscretized-operator-left": ("changes/src/reach.rt", "    flags::rediscretized_flags(l, st, lines, m, level, &averaged, &mut operator);\n", ""),
+    "divergence-left": ("operators/src/stencil.rt", "    nodes_flagged(l, st, flags, n, &cs)\n", "    nodes_flagged(l, st, flags, n / 2, &cs)\n"),
+    "fixed-row-reached": ("operators/src/stencil.rt", "    if neighbours::fixed(l, st, r) {\n        return false;\n    }\n    if lists::flagged(flags, r) {",
+                          "    if lists::flagged(flags, r) {"),
+    "beyond-the-reach": ("changes/src/flags.rt", "words::bit(flags[q / 64], q % 64)", "words::bit(flags[q / 64], q % 64) || q % 7 == 0"),
+    "nothing-put-back": ("changes/src/guard.rt", "    if bad == 0 {\n        return 0;\n    }\n", "    if bad < 100 {\n        return bad;\n    }\n"),
+    "turned-not-put-back": ("changes/src/cursor.rt", "        tvalues[at] = x;\n", ""),
+    "half-put-back": ("changes/src/cursor.rt", "for k in 0..n {", "for k in 0..n / 2 {"),
+    "same-double-saved": ("changes/src/cursor.rt", "at: c.at + 1,", "at: c.at,"),
+    "permittivity-not-put-back": ("changes/src/change.rt", "    numbers::put(eps, edge, old);\n", ""),
+    "ten-before-nine": ("changes/src/change.rt", "    if grid::unknowns(l.grid) <= edge {",
+                        "    if check::bad_number(value) {\n        return Changed::BadValue(edge);\n    }\n    if grid::unknowns(l.grid) <= edge {"),
+    "nine-too-late": ("changes/src/change.rt", "grid::unknowns(l.grid) <= edge", "grid::unknowns(l.grid) < edge"),
+    "eleven-before-six": ("changes/src/change.rt", "    let a = setup::structure(",
+                          "    if ends.len() > 0 && ends[0] != 0 {\n        return Changed::Differs(0);\n    }\n    let a = setup::structure("),
+    "seven-at-the-last": ("changes/src/change.rt", "Answer::NotFinite(bad - 1)", "Answer::NotFinite(m)"),
+    "ends-not-compared": ("changes/src/compare.rt", "let e = first_ends(l, st, lines, m, ends);", "let e = m + 1;"),
+    "forward-starts-not-compared": ("changes/src/compare.rt", """\
+0, &mut row);
+        if !same_row(starts, s + r, k, columns, o.k + k, &row, count) {
+            return false;
+        }
+        k += count;
+    }
+    starts[s + n] == k
+}
+
+// Whether the forward rows between two levels stand in two lists.
+""", """\
+0, &mut row);
+        if !same(columns, o.k + k, &row, count) {
+            return false;
+        }
+        k += count;
+    }
+    true
+}
+
+"""),
+    "forward-columns-not-compared": ("changes/src/compare.rt", """\
+ps, ns, grid::at(gf, r), 0, &mut row);
+        if !same_row(starts, s + r, k, columns, o.k + k, &row, count) {
+""", """\
+ps, ns, grid::at(gf, r), 0, &mut row);
+        if starts[s + r] != k {
+"""),
+    "turned-starts-not-compared": ("changes/src/compare.rt", "if tstarts[ts + c + 1] != next[c] {", "if false {"),
+    "turned-columns-not-compared": ("changes/src/compare.rt", "if tcolumns[tk + at] != r {", "if false {"),
+    "operator-starts-not-compared": ("changes/src/compare.rt", """\
+r, p, &mut row, 0);
+        if !same_row(starts, s + r, k, columns, o.k + k, &row, count) {
+            return false;
+        }
+        k += count;
+    }
+    starts[s + n] == k
+""", """\
+r, p, &mut row, 0);
+        if !same(columns, o.k + k, &row, count) {
+            return false;
+        }
+        k += count;
+    }
+    true
+"""),
+    "operator-columns-not-compared": ("changes/src/compare.rt", """\
+r, p, &mut row, 0);
+        if !same_row(starts, s + r, k, columns, o.k + k, &row, count) {
+""", """\
+r, p, &mut row, 0);
+        if starts[s + r] != k {
+"""),
+    "eleven-at-the-coarse": ("changes/src/compare.rt", "            return level;\n", "            return level + 1;\n"),
+    "ends-first": ("changes/src/compare.rt", "lists::lesser(e, lists::lesser(t, o))", "if e <= m {\n        return e;\n    }\n    lists::lesser(t, o)"),
+    "other-change-refusal": ("yonaduvi/src/answers.rt", "put_two(out, 11, level)", "put_two(out, 11, level + 1)"),
 }
 
 
@@ -222,7 +309,7 @@ def main():
         stop(f"no fault {fault}")
     parts = ["#![allow(unused)]"]
     # each sees those before it
-    crates_in_order = ["numbers", "lattice", "weights", "operators", "store", "yonaduvi"]
+    crates_in_order = ["numbers", "lattice", "weights", "operators", "store", "changes", "yonaduvi"]
     for k, crate in enumerate(crates_in_order):
         parts += module(crates, crate, crates_in_order[:k], fault)
     os.makedirs(out, exist_ok=True)

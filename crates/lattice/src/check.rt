@@ -65,7 +65,8 @@ fn bad_length(x: f64) -> bool
     !(numbers::is_finite_double(x) && 0.0 < x)
 }
 
-fn bad_number(x: C64) -> bool
+// Whether a number is not finite, or zero.
+pub fn bad_number(x: C64) -> bool
     ensures { λ r. ⌜ r ≡ badNumber x ⌝ }
 {
     !numbers::is_finite(x) || numbers::is_zero(x)

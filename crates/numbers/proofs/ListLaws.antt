@@ -229,6 +229,18 @@ unfolding tabulate
 tabulate-more f zero k j e = let d : k ≡ j = omega arith in rw d
 tabulate-more f (suc n) k j e = rw (tabulate-more f n (suc k) j (omega arith))
 
+-- with n more at the end
+pub tabulate-append : {A : Type 0} (f : ℕ → A) (m n k : ℕ) → tabulate f (m + n) k ≡ tabulate f m k ++ tabulate f n (k + m)
+unfolding tabulate
+tabulate-append {A} f zero n k =
+    let y : 0 + n ≡ n = omega arith in
+    let z : k + 0 ≡ k = omega arith in
+    rw (y, z)
+tabulate-append {A} f (suc m) n k =
+    let y : suc m + n ≡ suc (m + n) = omega arith in
+    let z : k + suc m ≡ suc k + m = omega arith in
+    rw (y, z, tabulate-append f m n (suc k))
+
 -- ---- the starts of rows: 0 first, and behind each row its end
 
 module _ {A : Type 0} (row : ℕ → List A) where

@@ -110,7 +110,8 @@ part-number f g h xs k m room L j i d e a b =
 abbrev pub partsFrom : {A : Type 0} → (ℕ → List A) → ℕ → ℕ → List A
 partsFrom f L m = rows (λ i. f (L + i)) (m - L)
 
-rows-append : {A : Type 0} (f : ℕ → List A) (m n : ℕ) → rows f (m + n) ≡ rows f m ++ rows (λ i. f (m + i)) n
+-- m rows, and n more behind them
+pub rows-append : {A : Type 0} (f : ℕ → List A) (m n : ℕ) → rows f (m + n) ≡ rows f m ++ rows (λ i. f (m + i)) n
 rows-append {A} f m zero =
     let e : m + 0 ≡ m = omega arith in
     ap (rows f) e ∙ sym (ap (λ (xs : List A). rows f m ++ xs) (rows-zero (λ i. f (m + i))) ∙ append-nil (rows f m))

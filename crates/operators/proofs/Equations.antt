@@ -1,11 +1,13 @@
 -- Definitions of this layer as equations, by cases, for the layers above: where no law says more.
 -- Assumes nothing.
-use Prim.Native.Nat.{ℕ, zero, suc}
+use Prim.Native.Nat.{ℕ, zero, suc, _+_}
 use mathlib.Core.Path.{_≡_, refl}
 use mathlib.Core.Bool.{true, _&&_}
 use mathlib.Core.List.{List}
+use lib.Ieee.{Float}
 use Rattle.numbers.specs.declared.C64.{C64}
-use Rattle.numbers.specs.Lists.{each}
+use Rattle.numbers.specs.declared.terms.Part.{Part}
+use Rattle.numbers.specs.Lists.{each, laidNumbers, startOf}
 use Rattle.numbers.specs.Terms.{Term, columnsOf, numbersOf}
 use Rattle.numbers.specs.Transpose.{turnedRow}
 use Rattle.lattice.specs.Grid.{unknownsOf}
@@ -14,7 +16,7 @@ use Rattle.weights.specs.CoarseEps.{coarseEps}
 use Rattle.weights.specs.Prolongation.{prolongationRow}
 use Rattle.weights.specs.TwoLevels.{twoAt, fineGrid}
 use Rattle.operators.specs.Averaged.{averagedEps}
-use Rattle.operators.specs.Galerkin.{galerkinRow, galerkinColumns, galerkinNumbers, fineRowsRead, columnsAt, forwardRowsRead}
+use Rattle.operators.specs.Galerkin.{galerkinRow, galerkinColumns, galerkinNumbers, fineRowsRead, columnsAt, forwardRowsRead, rowLaid}
 use Rattle.operators.specs.Levels.{epsAt, averagedOn, forwardAt, turnedAt, galerkinAt, latticeAt, rediscretizedAt, volumesAt, inverseSharesAt}
 use Rattle.operators.specs.Stencil.{stencilRow}
 use Rattle.operators.specs.Volumes.{volumeOf, inverseShare, shareFinite, sharesFinite}
@@ -75,6 +77,11 @@ galerkinNumbers-is A P R c = refl
 pub fineRowsRead-is : (R : ℕ → List Term) (c : ℕ) → fineRowsRead R c ≡ columnsOf (R c)
 unfolding fineRowsRead
 fineRowsRead-is R c = refl
+
+pub rowLaid-is : (A P R : ℕ → List Term) (c : ℕ) (o : Part) (xs : List Float)
+    → rowLaid A P R c o xs ≡ laidNumbers xs (o .k + startOf (galerkinColumns A P R) c) (galerkinNumbers A P R c)
+unfolding rowLaid
+rowLaid-is A P R c o xs = refl
 
 pub forwardRowsRead-is : (A R : ℕ → List Term) (c : ℕ) → forwardRowsRead A R c ≡ each (λ r. columnsOf (A r)) (columnsOf (R c))
 unfolding forwardRowsRead fineRowsRead columnsAt

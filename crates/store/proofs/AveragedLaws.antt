@@ -52,15 +52,16 @@ chain-fits l limits m deep {n} {level} {sum} {k} u e p h =
 
 -- ---- one level
 
+-- a level's permittivities end before those of the next
+pub averaged-apart : (l : FullLattice) (m L : ℕ) → averagedFrom l m L + edgesOn l L ≤ averagedOff l m L
+averaged-apart l m zero = omega (arith, part-room (edgesOn l) 0 (suc m) (omega arith))
+averaged-apart l m (suc L) = omega (arith, sumTo-suc (nextEdges l) L)
+
 module _ (l : FullLattice) (limits : Limits (l .grid)) (m L : ℕ) (h : (L < m) × (m ≤ 11)) {lines : List Line} (has : HasLines l m lines) {from to : ℕ} {o : Part}
     (at : AveragedPlaces l m L from to o) {eps : List Float} (room : AveragedRoom l m eps)
     {fine coarse : Three} (p : fine ≡ threeIn lines L) (q : coarse ≡ threeIn lines (L + 1)) where
   next-room : averagedOff l m L + edgesOn l (suc L) ≤ averagedOff l m m
   next-room = omega (arith, part-room (nextEdges l) L m (h .0))
-
-  apart : (K : ℕ) → averagedFrom l m K + edgesOn l K ≤ averagedOff l m K
-  apart zero = omega (arith, part-room (edgesOn l) 0 (suc m) (omega arith))
-  apart (suc K) = omega (arith, sumTo-suc (nextEdges l) K)
 
   level-given : (g : ℕ → C64) → ((r : ℕ) → r < edgesOn l L → readFrom eps from r ≡ g r) → AveragedGiven l fine coarse eps from to g L
   level-given g reads =
@@ -70,7 +71,7 @@ module _ (l : FullLattice) (limits : Limits (l .grid)) (m L : ℕ) (h : (L < m) 
         fine-lines = p ∙ three-is _ _ has L (omega (arith, h .0));
         coarse-lines = q ∙ ap (threeIn lines) z ∙ three-is _ _ has (suc L) (omega (arith, h .0));
         chain = record {
-          apart = omega (arith, apart L, at .from-is, at .to-is);
+          apart = omega (arith, averaged-apart l m L, at .from-is, at .to-is);
           room = omega (arith, next-room, at .to-is, room .room);
           low = omega (arith, at .to-is, averaged-low l limits m L (h .1) (omega (arith, h .0, h .1)));
         };

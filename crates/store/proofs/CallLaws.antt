@@ -14,7 +14,7 @@ use Rattle.lattice.specs.Grid.{unknownsOf, Limits}
 use Rattle.lattice.specs.Lattice.{FullLattice}
 use Rattle.operators.specs.LevelLists.{edgesOn}
 use Rattle.operators.proofs.LevelListLaws.{first-edges}
-use Rattle.store.specs.Plan.{run, firstBad as firstLevel}
+use Rattle.store.specs.Plan.{Consistent, run, firstBad as firstLevel}
 use Rattle.store.specs.Book.{Answer, Done, Bad, NotFinite, Outcome, settle, setUp, change, note, after, answers, valuesAfter}
 use Rattle.store.specs.Store.{Store, Sizes, sizes, zeroed}
 use Rattle.store.specs.Places.{space}
@@ -26,12 +26,12 @@ use Rattle.store.specs.Setup.{Input, fullOf, transfersOf, Result, result
 use Rattle.store.specs.Load.{load}
 use Rattle.store.specs.Work.{Structured}
 use Rattle.store.specs.Calls.{levelMatches, whyVerdict, badVerdict, settled, plannedOf, changeOf, Told, told, noted}
-use Rattle.store.proofs.PlanLaws.{run-shape}
+use Rattle.store.proofs.PlanLaws.{run-shape, set-up-consistent}
 use Rattle.lattice.proofs.CheckLaws.{and-second}
 use Rattle.lattice.proofs.LatticeLaws.{lattice-grid}
 use Rattle.store.proofs.RangeLaws.{ranges}
 use Rattle.store.proofs.SetupLaws.{Values, load-structured, load-sizes, fits, demand-3}
-use Rattle.store.proofs.StoreLaws.{laws}
+use Rattle.store.proofs.StoreLaws.{laws, room}
 use Rattle.store.proofs.VerdictLaws.{unless-sound, unless-told, enough-told}
 use Rattle.store.proofs.StructureLaws.{nothing-differs, run-structured}
 use Rattle.store.proofs.CheckedLaws.{list-long, limits-hold, stretches-pass, copy-good, copy-bad}
@@ -130,6 +130,11 @@ module _ (i : Input) (b : Store) where
             → settle {X = space} {Why = Why} o (run (rules l ch m) (full l ch m) (load l ch m b eps)) (load l ch m b eps) .store ≡ run (rules l ch m) (full l ch m) (load l ch m b eps)
         go none e = refl
         go (some L) e = absurd (not-done e)
+
+    -- each row holds what its rule says of the store itself
+    pub here-consistent : Consistent (rules l ch m) here
+    here-consistent =
+        rw here-run (set-up-consistent (laws l ch m (ranges l limits)) (load l ch m b eps) (rw (load-sizes l ch m b enough eps) (room l ch m (ranges l limits) (sizes b) enough)))
 
     here-sizes : sizes here ≡ sizes b
     here-sizes = ap sizes here-run ∙ run-shape (laws l ch m (ranges l limits)) (full l ch m) (load l ch m b eps) ∙ load-sizes l ch m b enough eps

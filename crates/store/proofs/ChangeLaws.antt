@@ -31,13 +31,13 @@ use Rattle.store.specs.Spots.{permittivity, spot, cells, partOf, doubleO
 use Rattle.store.specs.Plan.{run, firstBad, reached}
 use Rattle.store.specs.Book.{Answer, Done, Bad, NotFinite, Outcome, outcome, settle, gate, change}
 use Rattle.store.specs.Layout.{Enough}
-use Rattle.store.specs.Setup.{Result, result, unless, allTo, namesOnce, shortOf}
+use Rattle.store.specs.Setup.{Input, fullOf, Result, result, unless, allTo, namesOnce, shortOf}
 use Rattle.store.specs.Steps.{mOf, structureBy}
 use Rattle.store.specs.FillSteps.{FirstBad}
 use Rattle.store.specs.Rows.{Row, rules}
 use Rattle.store.specs.Reach.{hit}
-use Rattle.store.specs.Changes.{Change, Why, changes}
-use Rattle.store.specs.Calls.{levelMatches, settled}
+use Rattle.store.specs.Changes.{Change, Why, NoEdge, BadValue, changes}
+use Rattle.store.specs.Calls.{levelMatches, badVerdict, settled, changeOf}
 use Rattle.store.specs.Work.{Structured, withList}
 use Rattle.store.specs.Parts.{FlagsOf, flaggedRows}
 use Rattle.store.specs.Worked.{answerBy, Tried}
@@ -53,6 +53,10 @@ use Rattle.store.proofs.SettleLaws.{and-last, and-sound, unless-refused
 use Rattle.store.proofs.StoreLaws.{chain-most}
 use Rattle.numbers.proofs.PartLaws.{part-room}
 use Rattle.store.proofs.StructureLaws.{differs-none}
+use Rattle.store.proofs.VerdictLaws.{unless-sound}
+use Rattle.lattice.proofs.LatticeLaws.{lattice-grid}
+use Rattle.operators.proofs.LevelListLaws.{first-edges}
+use Rattle.lattice.proofs.LevelLaws.{depth-none}
 
 -- ---- one permittivity
 
@@ -239,6 +243,22 @@ module _ (l : FullLattice) (ch : Choice) (coarsest : ℕ) (b : Store) (c : Chang
       m-is : m ≡ mOf l coarsest
       m-is = count ∙ ap (λ (u : Verdict). countOf u - 1) depth
 
+      -- as many levels as the level loop found
+      pub depth-told : depthOf l coarsest ≡ accepted (suc m)
+      depth-told = go (depthOf l coarsest) refl
+        where
+          go : (u : Verdict) → depthOf l coarsest ≡ u → depthOf l coarsest ≡ accepted (suc m)
+          go (accepted zero) q = absurd (depth-none l coarsest q)
+          go (accepted (suc k)) q =
+              let z : m ≡ suc k - 1 = m-is ∙ ap (λ (w : Verdict). countOf w - 1) q in
+              let y : suc k ≡ suc m = omega (arith, z) in
+              q ∙ ap accepted y
+          go (refused n p) q =
+              let h : isSound (andThen levels (andThen short (accepted (suc (mOf l coarsest))))) ≡ true = ap isSound (sym found-is) ∙ e in
+              let g : andThen levels (andThen short (accepted (suc (mOf l coarsest)))) ≡ refused n p =
+              ap (λ (w : Verdict). andThen (andThen w (allTo 8 (namesOnce l) (mOf l coarsest))) (andThen short (accepted (suc (mOf l coarsest))))) q in
+              absurd (false≢true (ap isSound (sym g) ∙ h))
+
       eleven : allTo 11 (levelMatches l ch (mOf l coarsest) b) (suc (mOf l coarsest)) ≡ cond (ltb r (suc m)) (refused 11 r) (accepted 0)
       eleven = ap (λ (k : ℕ). allTo 11 (levelMatches l ch k b) (suc k)) (sym m-is) ∙ sym (all-match l ch m b (suc m)) ∙ first .verdict
 
@@ -335,3 +355,59 @@ fixed-room b enough =
 pub five-room : {l : FullLattice} {ch : Choice} {m : ℕ} (b : Store) → Enough l ch m (sizes b) → FiveRoom l ch m (five (b .permittivities) (b .forwardValues) (b .turnedValues) (b .operatorValues) (b .scaling))
 five-room b enough =
     record { e-room = enough .eps-room; f-room = enough .forward-values; t-room = enough .turned-values; o-room = enough .operator-values; c-room = enough .scaling-room }
+
+-- an edge that is there and a value that is sound
+pub edit-passed : (l : FullLattice) (v : Lattice) (e : ℕ) (z : C64) → v .grid ≡ l .grid → isSound (editVerdict v e z) ≡ true → (e < edgesOn l 0) × (changes l .bad (changeTo e z) ≡ none)
+unfolding editVerdict
+edit-passed l v e z g h = go (ltb e (unknownsOf (v .grid))) refl (badNumber z) refl
+  where
+    n : unknownsOf (v .grid) ≡ edgesOn l 0
+    n = ap unknownsOf g ∙ first-edges l
+
+    go : (p : Bool) → ltb e (unknownsOf (v .grid)) ≡ p → (q : Bool) → badNumber z ≡ q → (e < edgesOn l 0) × (changes l .bad (changeTo e z) ≡ none)
+    go true x false y =
+        let b : ltb e (edgesOn l 0) ≡ true = rw (sym n) x in
+        (ltb-true e (edgesOn l 0) b, rw (b, y) refl)
+    go true x true y = absurd (false≢true (rw (x, y) at h))
+    go false x q y = absurd (false≢true (rw x at h))
+
+-- 9 and 10 in the plan's words
+edit-verdict : (i : Input) (e : ℕ) (z : C64) → editVerdict (i .lattice) e z ≡ badVerdict (changes (fullOf i) .bad (changeTo e z)) e
+unfolding editVerdict
+edit-verdict i e z = rw (sym n) (go (ltb e (unknownsOf (i .lattice .grid))) (badNumber z))
+  where
+    n : unknownsOf (i .lattice .grid) ≡ edgesOn (fullOf i) 0
+    n = ap unknownsOf (sym (lattice-grid (i .lattice) (i .xn) (i .xh) (i .yn) (i .yh) (i .zn) (i .zh))) ∙ first-edges (fullOf i)
+
+    go : (p q : Bool) → cond p (cond q (refused 10 e) (accepted 0)) (refused 9 e) ≡ badVerdict (cond p (cond q (some BadValue) none) (some NoEdge)) e
+    go true true = refl
+    go true false = refl
+    go false q = refl
+
+-- ---- with the checks
+
+module _ (i : Input) (s : Store) (e : ℕ) (z : C64) {w : Verdict} (checked : w ≡ checkStretches (i .lattice) (i .xn) (i .xh) (i .yn) (i .yh) (i .zn) (i .zh)) where
+  pub change-checked : isSound w ≡ false → result w s ≡ changeOf i s (changeTo e z)
+  unfolding changeOf
+  change-checked h =
+      ap (λ (u : Verdict). result u s) checked
+      ∙ unless-refused (checkStretches (i .lattice) (i .xn) (i .xh) (i .yn) (i .yh) (i .zn) (i .zh)) s _ (ap isSound (sym checked) ∙ h)
+
+  module _ (h : isSound w ≡ true) {k : Verdict} (edited : k ≡ editVerdict (i .lattice) e z) where
+    goes-on : changeOf i s (changeTo e z) ≡ unless (badVerdict (changes (fullOf i) .bad (changeTo e z)) e) s (changedBehind (fullOf i) (i .choice) (i .coarsest) s (changeTo e z))
+    unfolding changeOf changedBehind
+    goes-on = unless-sound (checkStretches (i .lattice) (i .xn) (i .xh) (i .yn) (i .yh) (i .zn) (i .zh)) s _ (ap isSound (sym checked) ∙ h)
+
+    k-is : k ≡ badVerdict (changes (fullOf i) .bad (changeTo e z)) e
+    k-is = edited ∙ edit-verdict i e z
+
+    pub change-edit : isSound k ≡ false → result k s ≡ changeOf i s (changeTo e z)
+    change-edit y =
+        ap (λ (u : Verdict). result u s) k-is
+        ∙ unless-refused (badVerdict (changes (fullOf i) .bad (changeTo e z)) e) s (changedBehind (fullOf i) (i .choice) (i .coarsest) s (changeTo e z)) (ap isSound (sym k-is) ∙ y)
+        ∙ sym goes-on
+
+    pub change-settled : isSound k ≡ true → {l : FullLattice} → l ≡ fullOf i → {r : Result} → r ≡ changedBehind l (i .choice) (i .coarsest) s (changeTo e z) → r ≡ changeOf i s (changeTo e z)
+    change-settled y full q =
+        q ∙ ap (λ (f : FullLattice). changedBehind f (i .choice) (i .coarsest) s (changeTo e z)) full
+        ∙ sym (goes-on ∙ unless-sound (badVerdict (changes (fullOf i) .bad (changeTo e z)) e) s (changedBehind (fullOf i) (i .choice) (i .coarsest) s (changeTo e z)) (ap isSound (sym k-is) ∙ y))

@@ -35,7 +35,7 @@ module _ {l : FullLattice} {m : ℕ} {lines : List Line} (has : HasLines l m lin
             omega (arith, ap (λ (f : Line). f .cells) e, o .most);
       }
 
-  held-ends : (q : ℕ) → q < 3 * suc m → heldBy (getD lines q blankLine) ≡ endsPart l q
+  pub held-ends : (q : ℕ) → q < 3 * suc m → heldBy (getD lines q blankLine) ≡ endsPart l q
   held-ends q h =
       let es = endsPart l q in
       let o = line-over l limits (q % 3) (q / 3) in

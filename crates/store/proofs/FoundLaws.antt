@@ -56,7 +56,7 @@ pub record Small (o : Part) (n m k : ℕ) : Type 0 where
 
 module _ (cols : ℕ → List ℕ) (n : ℕ) (o : Part) (ss cs : List ℕ) (w : RowsAt cols n o ss cs) where
   -- the column of a place, by its row
-  column-is : (r j : ℕ) → r < n → j < length (cols r) → getD cs (o .k + (startOf cols r + j)) 0 ≡ getD (cols r) j 0
+  pub column-is : (r j : ℕ) → r < n → j < length (cols r) → getD cs (o .k + (startOf cols r + j)) 0 ≡ getD (cols r) j 0
   column-is r j b i = w .columns-are (startOf cols r + j) (omega (arith, start-room cols n r b)) ∙ start-at cols n r j 0 b i
 
   pub rows-stored : (xs : List Float) (m : ℕ) → ((r c : ℕ) → r < n → In c (cols r) → c < m) → o .s + n < length ss → o .k + startOf cols n ≤ length cs → 2 * (o .k + startOf cols n) ≤ length xs

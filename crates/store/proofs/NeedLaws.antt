@@ -51,7 +51,7 @@ abbrev pub endsIn : List Line → ℕ → ℕ
 endsIn lines q = getD lines q blankLine .cells + 1
 
 module _ (l : FullLattice) (limits : Limits (l .grid)) (m : ℕ) {lines : List Line} (has : HasLines l m lines) where
-  ends-there : (q : ℕ) → q < 3 * suc m → endsIn lines q ≡ length (lineAt l (q % 3) (q / 3))
+  pub ends-there : (q : ℕ) → q < 3 * suc m → endsIn lines q ≡ length (lineAt l (q % 3) (q / 3))
   ends-there q h =
       let e : getD lines q blankLine .cells ≡ length (lineAt l (q % 3) (q / 3)) - 1 = ap (λ (s : Line). s .cells) (has .line-is q h ∙ packed-is (lineAt l (q % 3) (q / 3))) in
       omega (arith, e, line-over l limits (q % 3) (q / 3) .some)

@@ -9,7 +9,7 @@ use mathlib.Core.Bool.{Bool, true, false}
 use Rattle.numbers.specs.Lists.{In}
 use Rattle.numbers.proofs.MemberLaws.{in-append, in-left, in-right}
 use Rattle.numbers.proofs.Laws.{and-left, and-right}
-use Rattle.store.specs.Space.{Space, Look, meets}
+use Rattle.store.specs.Space.{Space, Look, Lawful, meets}
 use Rattle.store.specs.Plan.{Rules, Laws, step, run, allFine, rowFine, fine, firstBad, reach, Stands, Holds, Consistent, Room, Rising, Sound, Alike}
 use Rattle.store.proofs.TestLaws.{bool?, and-both}
 use Rattle.store.proofs.PlaceLaws.{in?, meets-none, puts-shape, puts-out, puts-in, puts-nothing}
@@ -58,6 +58,13 @@ module _ {X : Space} (R : Rules X) where
   fine-is (r ∷ rs) s =
       ⊎-elim (λ e. rw e (fine-is rs (step R s r))) (λ e. rw e refl) (bool? (rowFine R s r))
 
+  -- a run leaves each place that none of its rows writes
+  pub run-outside : Lawful X → (rs : List (R .Row)) (s : X .S) (p : X .P) → (Stands R p rs → ⊥) → X .get (run R rs s) p ≡ X .get s p
+  unfolding run
+  run-outside w [] s p h = refl
+  run-outside w (r ∷ rs) s p h =
+      run-outside w rs (step R s r) p (λ m. h (inr m)) ∙ puts-out X w s (R .writes r) (R .calc (X .get s) r) p (λ i. h (inl i))
+
 module _ {X : Space} {R : Rules X} (L : Laws X R) where
   -- one row
   pub step-shape : (s : X .S) (r : R .Row) → X .shape (step R s r) ≡ X .shape s
@@ -74,10 +81,7 @@ module _ {X : Space} {R : Rules X} (L : Laws X R) where
   run-shape (r ∷ rs) s = run-shape rs (step R s r) ∙ step-shape s r
 
   pub run-keeps : (rs : List (R .Row)) (s : X .S) (p : X .P) → (Stands R p rs → ⊥) → X .get (run R rs s) p ≡ X .get s p
-  unfolding run
-  run-keeps [] s p h = refl
-  run-keeps (r ∷ rs) s p h =
-      run-keeps rs (step R s r) p (λ m. h (inr m)) ∙ puts-out X (L .lawful) s (R .writes r) (R .calc (X .get s) r) p (λ i. h (inl i))
+  run-keeps rs s p h = run-outside R (L .lawful) rs s p h
 
   -- what the rule of a run's first row says, it still says at the end
   first-rule : (r : R .Row) (rs : List (R .Row)) (s : X .S) → Rising R (r ∷ rs) → (p : X .P) → In p (R .writes r) → R .calc (X .get s) r p ≡ R .calc (X .get (run R (r ∷ rs) s)) r p

@@ -218,7 +218,7 @@ module _ (l : FullLattice) (ch : Choice) (m : ℕ) (w : Ranges l) where
 
 -- ---- room
 
-abbrev needOf : FullLattice → Choice → ℕ → Kind → ℕ
+abbrev pub needOf : FullLattice → Choice → ℕ → Kind → ℕ
 needOf l ch m permittivity = epsNeed l ch m
 needOf l ch m forwards = forwardOff l m
 needOf l ch m turneds = turnedOff l m
@@ -237,7 +237,7 @@ scale-most : (l : FullLattice) (ch : Choice) (m L q : ℕ) → Re ch → L < m �
 scale-most l Galerkin m L q e h b = absurd e
 scale-most l Rediscretized m L q e h b = omega (arith, part-room (scaleCount l) L m h)
 
-row-most : (l : FullLattice) (ch : Choice) (m : ℕ) (r : Row) → Valid l ch m r → from l ch m r + count l ch m r ≤ needOf l ch m (kindOf l ch m r)
+pub row-most : (l : FullLattice) (ch : Choice) (m : ℕ) (r : Row) → Valid l ch m r → from l ch m r + count l ch m r ≤ needOf l ch m (kindOf l ch m r)
 row-most l ch m (coarse L r) v = omega (arith, part-room (edgesOn l) (suc L) (suc m) (omega (arith, v .0)), chain-most l ch m, v .1)
 row-most l ch m (averaged L r) v = omega (arith, averaged-most l ch m L r (v .2) (v .0) (v .1))
 row-most l ch m (forward L r) v = omega (arith, start-room (forwardCols l L) (edgesOn l L) r (v .1), part-room (forwardCount l) L m (v .0))

@@ -25,6 +25,7 @@ use Rattle.store.specs.Phases.{forwardPart, turnedPart, operatorPart}
 use Rattle.store.specs.Work.{RowsAt, Structured}
 use Rattle.store.specs.Calls.{matches, endsMatch, transferMatches, levelMatches}
 use Rattle.store.proofs.TestLaws.{and-both}
+use Rattle.store.proofs.MatchLaws.{matches-all, matches-told}
 use Rattle.store.proofs.PlanLaws.{in-stands, run-keeps}
 use Rattle.store.proofs.RangeLaws.{ranges}
 use Rattle.store.proofs.StoreLaws.{rank, rank-some, stands, laws}
@@ -32,12 +33,6 @@ use Rattle.store.proofs.VerdictLaws.{all-pass, pass-all}
 use Rattle.numbers.proofs.PartLaws.{cols-long, starts-at, starts-long}
 
 -- ---- a store with the lattice's structure passes
-
-matches-all : (cs : List ℕ) (k : ℕ) (vs : List ℕ) → ((j i : ℕ) → i ≡ k + j → j < length vs → getD cs i 0 ≡ getD vs j 0) → matches cs k vs ≡ true
-unfolding matches
-matches-all cs k [] h = refl
-matches-all cs k (v ∷ vs) h =
-    rw (eq-eqb (getD cs k 0) v (h 0 k (omega arith) (omega arith)), matches-all cs (suc k) vs (λ j i e b. h (suc j) i (omega arith) (omega arith))) refl
 
 matches-starts : (cols : ℕ → List ℕ) (n : ℕ) (o : Part) (ss cs : List ℕ) → RowsAt cols n o ss cs → matches ss (o .s) (startsOf cols n) ≡ true
 matches-starts cols n o ss cs w =
@@ -86,14 +81,6 @@ module _ (l : FullLattice) (ch : Choice) (m : ℕ) (s : Store) (w : Structured l
   nothing-differs = all-pass 11 (levelMatches l ch m s) (suc m) (λ L b. level-matches L (omega arith))
 
 -- ---- and a store that passes 11 has the lattice's structure
-
-matches-told : (cs : List ℕ) (k : ℕ) (vs : List ℕ) → matches cs k vs ≡ true → (j i : ℕ) → i ≡ k + j → j < length vs → getD cs i 0 ≡ getD vs j 0
-unfolding matches
-matches-told cs k [] h j i e b = absurd (omega arith)
-matches-told cs k (v ∷ vs) h zero i e b =
-    let z : i ≡ k = omega arith in
-    rw z (eqb-true (getD cs k 0) v (and-told (eqb (getD cs k 0) v) (matches cs (suc k) vs) h .0))
-matches-told cs k (v ∷ vs) h (suc j) i e b = matches-told cs (suc k) vs (and-told (eqb (getD cs k 0) v) (matches cs (suc k) vs) h .1) j i (omega arith) (omega arith)
 
 either-told : (a b : Bool) → (a || b) ≡ true → a ≡ false → b ≡ true
 either-told true b h f = absurd (false≢true (sym f))

@@ -1,4 +1,4 @@
--- The steps of a change: the change of one edge, and the change behind the checks of its input.
+-- The steps of a change: what its answers mean, the change of one edge, and the change behind the checks of its input.
 -- Assumes nothing.
 use Prim.Native.Nat.{ℕ, suc}
 use mathlib.Core.Path.{_≡_}
@@ -16,7 +16,7 @@ use Rattle.store.specs.Store.{Store, sizes}
 use Rattle.store.specs.Places.{space}
 use Rattle.store.specs.Book.{Outcome, outcome, change}
 use Rattle.store.specs.Setup.{Result, unless, allTo, namesOnce, shortOf}
-use Rattle.store.specs.Steps.{mOf}
+use Rattle.store.specs.Steps.{answerOf, mOf}
 use Rattle.store.specs.Rows.{rules}
 use Rattle.store.specs.Changes.{Change, Why, changes}
 use Rattle.store.specs.Calls.{levelMatches, settled}
@@ -24,6 +24,15 @@ use Rattle.store.specs.Work.{Structured}
 use Rattle.store.specs.Worked.{answerBy}
 use Rattle.store.specs.Renewed.{Fixed, Five, storeOf}
 use Rattle.store.specs.declared.Choice.{Choice}
+use Rattle.store.specs.declared.change.Changed.{Changed}
+use Rattle.store.specs.declared.change.Changed.the-variants.{Answered, NoEdge, BadValue, Differs}
+
+-- what a change's answers mean: the level count, or a refusal's number and place
+abbrev pub changedOf : Changed → Verdict
+changedOf (Answered a) = answerOf a
+changedOf (NoEdge edge) = refused 9 edge
+changedOf (BadValue edge) = refused 10 edge
+changedOf (Differs level) = refused 11 level
 
 abbrev pub changeTo : ℕ → C64 → Change
 changeTo edge value = record { edge = edge; value = value }

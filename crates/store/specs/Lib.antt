@@ -23,5 +23,13 @@ pub mod Calls
 pub mod Parts
 pub mod Worked
 pub mod Renewed
+pub mod Compare
 pub mod ChangeSteps
+pub mod Flagged
+pub mod RenewSteps
+pub mod Cells
+pub mod Shape
+pub mod Guard
+pub mod RenewLevels
+pub mod ReachSteps
 pub mod Cases

@@ -1,5 +1,6 @@
 // The store: twelve lent lists, what they need, and the setup that fills them.
 
+pub mod change;
 pub mod ends;
 pub mod fill;
 pub mod galerkin_levels;

@@ -168,7 +168,7 @@ fn operator_terms(l: Lattice, st: &[f64], lines: [Line; 36], m: usize, choice: C
 }
 
 // What only a rediscretized store needs.
-fn only(choice: Choice, n: usize) -> usize
+pub fn only(choice: Choice, n: usize) -> usize
     ensures { λ r. ⌜ r ≡ onlyCount choice n ⌝ }
 {
     match choice {

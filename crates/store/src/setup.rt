@@ -81,7 +81,7 @@ fn levels_structure(
 }
 
 // Refusals 5, 8 and 6, from what the level loop found, or the level count.
-fn structure(
+pub fn structure(
     choice: Choice,
     l: Lattice,
     st: &[f64],
@@ -100,7 +100,7 @@ fn structure(
 }
 
 // The transfers of so many levels.
-fn transfers_of(depth: Depth) -> usize
+pub fn transfers_of(depth: Depth) -> usize
     ensures { λ r. ⌜ r ≡ countOf (depthVerdict depth) - 1 ⌝ }
 {
     match depth {

@@ -35,27 +35,12 @@ fn count_doubles(first: f64, list: &mut [f64]) {
     }
 }
 
-// The first n places of a list, or all of it.
-fn front(list: &[usize], n: usize) -> &[usize] {
-    if n <= list.len() {
-        return &list[0..n];
-    }
-    list
-}
-
-fn doubles_front(list: &[f64], n: usize) -> &[f64] {
-    if n <= list.len() {
-        return &list[0..n];
-    }
-    list
-}
-
 // The starts of the line `places`.
 fn starts(words: &[usize]) -> &[usize] {
     if words.len() < PLACES + 1 {
         return &words[0..0];
     }
-    front(&words[PLACES + 1..], inputs::at(words, PLACES))
+    inputs::front(&words[PLACES + 1..], inputs::at(words, PLACES))
 }
 
 // The three rows, printed.
@@ -98,9 +83,9 @@ pub fn run(words: &[usize]) {
     rows(
         built(words),
         starts(words),
-        doubles_front(&values, n),
-        doubles_front(&tvalues, n),
-        front(&columns, m),
+        inputs::doubles_front(&values, n),
+        inputs::doubles_front(&tvalues, n),
+        inputs::front(&columns, m),
         words,
     );
 }

@@ -19,6 +19,10 @@ pub const BUILT: usize = 32;
 pub const HANDED: usize = 72;
 // their count, and behind it the starts
 pub const PLACES: usize = 128;
+// the lengths lent for a change
+pub const LENT: usize = 500;
+// the count of words, and behind it four for each step
+pub const STEPS: usize = 512;
 
 // Where in the doubles list k begins: behind 14 scalars, with 144 for each of the stretches.
 pub fn list_place(k: u64) -> usize {
@@ -94,6 +98,21 @@ pub fn coarsest(words: &[usize]) -> usize {
 
 pub fn brief(words: &[usize]) -> bool {
     at(words, CHOICE + 2) != 0
+}
+
+// The first n places of a list, or all of it.
+pub fn front(list: &[usize], n: usize) -> &[usize] {
+    if n <= list.len() {
+        return &list[0..n];
+    }
+    list
+}
+
+pub fn doubles_front(list: &[f64], n: usize) -> &[f64] {
+    if n <= list.len() {
+        return &list[0..n];
+    }
+    list
 }
 
 // n doubles of a list from a place on, none where it has fewer.

@@ -7,7 +7,12 @@
 //   doubles ..          how many doubles of each of the seven lists are handed over
 //   choice C M B        0 for Galerkin, else rediscretized; `coarsest`; 0 if the lists are printed whole, else by digests but for the line ends
 //   room ..             the lengths of the twelve lent lists, each place of which holds a mark before the call
-//   setup               calls `setup_needs` and `setup`; if it is not refused, every row is handed back
+//   setup               calls `setup_needs` and `setup`; if it is not refused, every row is handed back, and the steps follow
+//   steps K A B C ..    what is done behind the next setup that is not refused, four words a step:
+//                         1 E X Y     calls `change`: edge E to the doubles X and Y; its answer and what it leaves in the lists
+//                         2 L K W     word K of lent list L set by its holder; 7 L K X a double
+//                         3 L N       list L is lent with N places from here on
+//                         4 L N       N doubles of input list L are handed over; 5 K W word K of the lines `grid` and `choice`; 6 K X double K of `numbers` or a list
 //   built L ..          a number of levels, and the cells of 12
 //   places ..           starts
 //   handed L R D W      hands back row R of level L, with those starts, from lists of D doubles and W words, each of which says its place
@@ -15,6 +20,7 @@ mod handed;
 mod inputs;
 mod setups;
 mod show;
+mod steps;
 mod text;
 
 use inputs::BUILT;
@@ -24,6 +30,7 @@ use inputs::GRID;
 use inputs::HANDED;
 use inputs::PLACES;
 use inputs::ROOM;
+use inputs::STEPS;
 use numbers::lists;
 use show::print;
 
@@ -57,7 +64,8 @@ fn place(kind: u8) -> usize {
         b'r' => ROOM,
         b'b' => BUILT,
         b'h' => HANDED,
-        _ => PLACES + 1,
+        b'p' => PLACES + 1,
+        _ => STEPS + 1,
     }
 }
 
@@ -68,9 +76,8 @@ fn set_list(line: &[u8], doubles: &mut [f64]) {
 
 fn set_words(line: &[u8], kind: u8, words: &mut [usize]) {
     let n = text::take(line, text::first(line), place(kind), words);
-    if kind == b'p' {
-        text::put(words, PLACES, n);
-    }
+    text::put_if(words, kind == b'p', PLACES, n);
+    text::put_if(words, kind == b't', STEPS, n);
 }
 
 fn title(line: &[u8]) {
@@ -81,6 +88,16 @@ fn title(line: &[u8]) {
 fn hand_back(line: &[u8], words: &mut [usize]) {
     set_words(line, b'h', words);
     handed::run(words);
+}
+
+// The line `setup`, or `steps`.
+fn set_up(line: &[u8], words: &mut [usize], doubles: &mut [f64]) {
+    if text::byte(line, 1) == b't' {
+        set_words(line, b't', words);
+        return;
+    }
+    setups::run(words, doubles);
+    text::put(words, STEPS, 0);
 }
 
 fn run_line(line: &[u8], words: &mut [usize], doubles: &mut [f64]) {
@@ -98,7 +115,7 @@ fn run_line(line: &[u8], words: &mut [usize], doubles: &mut [f64]) {
         return;
     }
     if kind == b's' {
-        setups::run(words, doubles);
+        set_up(line, words, doubles);
         return;
     }
     if kind == b'h' {
@@ -129,7 +146,7 @@ fn run(words: &mut [usize], doubles: &mut [f64]) {
 }
 
 fn main() {
-    let mut words = [0usize; 512];
+    let mut words = [0usize; 1600];
     let mut doubles = [0.0; 25600];
     repeated();
     run(&mut words, &mut doubles);

@@ -1,7 +1,8 @@
-// A setup: what it needs, what it answers, what it leaves in the twelve lists, and its rows handed back.
+// A setup: what it needs, what it answers, what it leaves in the twelve lists, and its rows handed back; then the steps behind it.
 use crate::inputs;
 use crate::show;
 use crate::show::print;
+use crate::steps;
 use store::handed;
 use store::handed::Cells;
 use store::needed;
@@ -95,14 +96,9 @@ fn accepted(a: Answer) -> bool {
     }
 }
 
-// How long lent list k is.
-fn room(words: &[usize], k: usize) -> usize {
-    inputs::at(words, std::num::wrapping_add_usize(inputs::ROOM, k))
-}
-
 // The front of a list that is lent as list k; none of it where it is too short.
 fn words_lent<'a>(list: &'a mut [usize], words: &[usize], k: usize) -> &'a mut [usize] {
-    let n = room(words, k);
+    let n = inputs::at(words, std::num::wrapping_add_usize(inputs::ROOM, k));
     if n <= list.len() {
         return &mut list[0..n];
     }
@@ -110,7 +106,7 @@ fn words_lent<'a>(list: &'a mut [usize], words: &[usize], k: usize) -> &'a mut [
 }
 
 fn doubles_lent<'a>(list: &'a mut [f64], words: &[usize], k: usize) -> &'a mut [f64] {
-    let n = room(words, k);
+    let n = inputs::at(words, std::num::wrapping_add_usize(inputs::ROOM, k));
     if n <= list.len() {
         return &mut list[0..n];
     }
@@ -127,7 +123,7 @@ fn three(name: &[u8], starts: &[usize], columns: &[usize], values: &[f64], brief
     show::doubles(b" values", values, brief);
 }
 
-pub fn run(words: &[usize], d: &[f64]) {
+pub fn run(words: &mut [usize], d: &mut [f64]) {
     let w = show::MARK as usize;
     let x = show::mark();
     let mut ends_all = [w; 256];
@@ -190,5 +186,21 @@ pub fn run(words: &[usize], d: &[f64]) {
     if accepted(answer) {
         let c = needed.cells;
         rows(c, starts, values, tstarts, tvalues, ostarts, ocolumns);
+        steps::run(
+            words,
+            d,
+            ends,
+            eps,
+            starts,
+            columns,
+            values,
+            tstarts,
+            tcolumns,
+            tvalues,
+            ostarts,
+            ocolumns,
+            ovalues,
+            scaling,
+        );
     }
 }

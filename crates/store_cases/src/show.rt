@@ -1,5 +1,6 @@
 // Printing: whole numbers in decimal, doubles by their bits, both in runs, and a mark as `-`.
 use lattice::check::Checked;
+use store::change::Changed;
 use store::handed::Cells;
 use store::needed::Needed;
 use store::setup::Answer;
@@ -51,7 +52,7 @@ fn checked(c: Checked) {
     }
 }
 
-pub fn answer(a: Answer) {
+fn answered(a: Answer) {
     match a {
         Answer::Levels(n) => levels(n),
         Answer::Refused(c) => checked(c),
@@ -59,6 +60,21 @@ pub fn answer(a: Answer) {
         Answer::Twice(level) => refused(8, level),
         Answer::Short(list) => refused(6, list),
         Answer::NotFinite(level) => refused(7, level),
+    }
+}
+
+pub fn answer(a: Answer) {
+    answered(a);
+    print(b"\n");
+}
+
+pub fn changed(a: Changed) {
+    print(b"change ");
+    match a {
+        Changed::Answered(b) => answered(b),
+        Changed::NoEdge(edge) => refused(9, edge),
+        Changed::BadValue(edge) => refused(10, edge),
+        Changed::Differs(level) => refused(11, level),
     }
     print(b"\n");
 }

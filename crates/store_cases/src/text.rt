@@ -134,7 +134,7 @@ pub fn front(line: &[u8], n: usize) -> &[u8] {
 }
 
 // The double of a pattern. Every NaN is the one that is made here.
-fn double(bits: u64) -> f64 {
+pub fn double(bits: u64) -> f64 {
     let e = bits % 0x8000_0000_0000_0000 / 0x10_0000_0000_0000;
     let m = bits % 0x10_0000_0000_0000;
     if e == 2047 {
@@ -152,9 +152,22 @@ pub fn put(list: &mut [usize], k: usize, v: usize) {
     }
 }
 
-fn put_double(list: &mut [f64], k: usize, v: f64) {
+pub fn put_double(list: &mut [f64], k: usize, v: f64) {
     if k < list.len() {
         list[k] = v;
+    }
+}
+
+// The same where `now` says so.
+pub fn put_if(list: &mut [usize], now: bool, k: usize, v: usize) {
+    if now {
+        put(list, k, v);
+    }
+}
+
+pub fn put_double_if(list: &mut [f64], now: bool, k: usize, v: f64) {
+    if now {
+        put_double(list, k, v);
     }
 }
 

@@ -180,11 +180,12 @@ module _ (t : TwoLevels) (p : Position) (m : Limits (fineGrid t)) (f : Inside (f
 unfoldable pullAs : TwoLevels → Position → ℕ → Term → Pull
 pullAs t p a x = record { place = x .column; node = readPlace t p a (x .column); weight = x .number }
 
+node-is : (t : TwoLevels) {ds : List ℕ} → ds ≡ tabulate (nodeEntry t) 768 0 → (q d : ℕ) → q < 384 → d < 2
+    → getD ds (2 * q + d) 0 ≡ cond (slotAlong q) (slotPlace q) (nodeOn t (slotAxis q) (getD (slotPlaces t q) d 0))
+node-is t o q d h b = read-at (nodeEntry t) 768 o (2 * q + d) 0 (omega arith) ∙ entry-node t q d b
+
 module _ (t : TwoLevels) {ps ds ns : List ℕ} {xs : List Float} (n : ns ≡ tabulate (countEntry t) 384 0) (s : ps ≡ tabulate (placeEntry t) 768 0)
     (o : ds ≡ tabulate (nodeEntry t) 768 0) (w : Numbers (pullEntry t) 768 xs) where
-  node-is : (q d : ℕ) → q < 384 → d < 2 → getD ds (2 * q + d) 0 ≡ cond (slotAlong q) (slotPlace q) (nodeOn t (slotAxis q) (getD (slotPlaces t q) d 0))
-  node-is q d h b = read-at (nodeEntry t) 768 o (2 * q + d) 0 (omega arith) ∙ entry-node t q d b
-
   weight-is : (q d : ℕ) → q < 384 → d < 2 → numberAt xs (2 * q + d) ≡ getD (numbersOf (slotTerms t q)) d zeroNumber
   weight-is q d h b = w .each-is (2 * q + d) (omega arith) ∙ entry-pull t q d b
 
@@ -209,7 +210,7 @@ module _ (t : TwoLevels) {ps ds ns : List ℕ} {xs : List Float} (n : ns ≡ tab
         let column : getD (slotPlaces t q) d 0 ≡ getD ts d noTerm .column = rw (free, ← free-columns t a (isAlong p a) (placeOn p a)) (column-at ts d noTerm) in
         let place : getD ps (2 * q + d) 0 ≡ getD ts d noTerm .column = place-is t n s q d k b ∙ column in
         let node : getD ds (2 * q + d) 0 ≡ cond (isAlong p a) (placeOn p a) (nodeOn t a (getD ts d noTerm .column)) =
-        rw (node-is q d k b, column, slot-axis a (placeOn p a) i (isAlong p a), slot-along a (placeOn p a) i (isAlong p a), slot-place a (placeOn p a) i (isAlong p a)) in
+        rw (node-is t o q d k b, column, slot-axis a (placeOn p a) i (isAlong p a), slot-along a (placeOn p a) i (isAlong p a), slot-place a (placeOn p a) i (isAlong p a)) in
         let weight : numberAt xs (2 * q + d) ≡ getD ts d noTerm .number = rw (weight-is q d k b, terms) (number-at ts d noTerm) in
         λ j. record { place = place j; node = node j; weight = weight j }
 
@@ -298,13 +299,13 @@ module _ {l : FullLattice} {fine coarse : Three} (p : Paired l fine coarse) {ps 
         place-in = place-in;
       }
 
-  module _ {ds : List ℕ} {xs : List Float} (o : ds ≡ tabulate (nodeEntry (twoOf l fine coarse)) 768 0) (w : Numbers (pullEntry (twoOf l fine coarse)) 768 xs) where
+  module _ {ds : List ℕ} (o : ds ≡ tabulate (nodeEntry (twoOf l fine coarse)) 768 0) where
     node-in : (q d : ℕ) → q < 384 → d < getD ns q 0 → getD ds (2 * q + d) 0 < nOf (fineGrid (twoOf l fine coarse)) (q / 128)
     unfolding slotAxis
     node-in q d h b =
         let t : TwoLevels = twoOf l fine coarse in
         let c : d < length (slotPlaces t q) = rw (count-is t n q h) at b in
-        rw (node-is t n s o w q d h (omega (arith, slot-most t q)), fine-n t (q / 128))
+        rw (node-is t o q d h (omega (arith, slot-most t q)), fine-n t (q / 128))
         (either-below (slotAlong q) (slot-own t q d c) (p .nested (q / 128) (getD (slotPlaces t q) d 0) (slot-inside t q (coarse-some p (q / 128)) d c)))
 
     nodes-of : NodesOf (fineGrid (twoOf l fine coarse)) ds ns
@@ -347,6 +348,10 @@ pulled w s n d m e x = record { slots = s; nodes = nodes-are (s .paired) n (s .p
 module _ {l : FullLattice} {fine coarse : Three} {gf gc : Grid3d} {ps ns : List ℕ} (s : Slotted l fine coarse gf gc ps ns) where
   pub slots-in : PlacesOf gc ps ns
   slots-in = rw (s .coarse-is) (places-of (s .paired) (s .counts) (s .places))
+
+  -- the fine places are places of the fine grid
+  pub nodes-in : {ds : List ℕ} → ds ≡ tabulate (nodeEntry (twoOf l fine coarse)) 768 0 → NodesOf gf ds ns
+  nodes-in o = rw (s .fine-is) (nodes-of (s .paired) (s .counts) (s .places) o)
 
   -- the places can be looked up among the nodes
   pub slots-low : {nn : List ℕ} → nn ≡ tabulate (nodeNo (twoOf l fine coarse)) 195 0
@@ -441,7 +446,7 @@ module _ {l : FullLattice} {fine coarse : Three} {gf gc : Grid3d} {ps ns ds : Li
         fine-in = rw (z .fine-is) (z .paired .fine-limits);
         coarse-in = rw (z .coarse-is) (z .paired .coarse-limits);
         places = slots-in z;
-        nodes = rw (z .fine-is) (nodes-of (z .paired) (z .counts) (z .places) (s .nodes) (s .pulls));
+        nodes = nodes-in z (s .nodes);
         pulls-long = s .pulls .long;
         room = record {
           fine-room = rw (z .fine-is) (r .fine-room);

@@ -13,15 +13,19 @@ use Rattle.lattice.specs.declared.check.Checked.{Checked}
 use Rattle.lattice.specs.declared.check.Checked.the-variants.{Sound, Cells, Scalar, Length, Entry}
 use Rattle.lattice.specs.declared.lattice.Lattice.{Lattice}
 use Rattle.store.specs.Store.{Store}
-use Rattle.store.specs.Setup.{Input, result, inputOf, setupOf, fullOf, transfersOf}
+use Rattle.store.specs.Setup.{Input, Result, result, inputOf, setupOf, fullOf, transfersOf}
 use Rattle.store.specs.FillSteps.{needsOf}
 use Rattle.store.specs.Needed.{NeededOf, noNeeds, noCells, cellsOf, neededVerdict}
 use Rattle.store.specs.Steps.{answerOf}
+use Rattle.store.specs.Calls.{changeOf}
+use Rattle.store.specs.ChangeSteps.{changedOf}
+use Rattle.store.specs.Changes.{Change}
+use Rattle.store.specs.declared.change.Changed.{Changed}
 use Rattle.store.specs.declared.Choice.{Choice}
 use Rattle.store.specs.declared.Choice.the-variants.{Galerkin, Rediscretized}
 use Rattle.store.specs.declared.needed.Needed.{Needed}
 use Rattle.store.specs.declared.setup.Answer.{Answer}
-use Rattle.yonaduvi.specs.Exports.{latticeFrom, choiceOf, inputFrom, answered, untouched, listLeft, SetupLeft, needsWords, cellsWords, NeedsLeft}
+use Rattle.yonaduvi.specs.Exports.{latticeFrom, choiceOf, inputFrom, answered, untouched, listLeft, CallLeft, needsWords, cellsWords, NeedsLeft}
 
 -- ---- the choice by its number
 
@@ -61,18 +65,24 @@ left-of : (v : Verdict) {A : Type 0} (words : A → List ℕ) (xs : List ℕ) (n
 left-of (accepted k) words xs n a b e = ap (λ m. laid xs 0 (words m)) e
 left-of (refused number place) words xs n a b e = refl
 
+-- a call that answers w and leaves s
+call-left : {r : Result} {w : Verdict} {s : Store} → result w s ≡ r → {out out′ : List ℕ} → out′ ≡ answered w out → CallLeft r out out′ s
+call-left e {out} o = record { answer-left = o ∙ ap (λ (q : Result). answered (q .verdict) out) e; store-left = ap (λ (q : Result). q .store) e }
+
 module _ (cells : List ℕ) (scalars xn xh yn yh zn zh : List Float) (choice : ℕ) {v : Lattice} {ch : Choice} (same : v ≡ latticeFrom cells scalars)
     (chosen : ch ≡ choiceOf choice) (coarsest : ℕ) where
   abbrev own : Input
   own = inputFrom cells scalars xn xh yn yh zn zh choice coarsest
 
-  -- ---- the setup
+  -- ---- the setup and the change
 
   pub setup-left : (given : List Float) (s : Store) {s′ : Store} (a : Answer) → result (answerOf a) s′ ≡ setupOf (inputOf v xn xh yn yh zn zh ch coarsest) given s
-      → {out out′ : List ℕ} → out′ ≡ answered (answerOf a) out → SetupLeft (setupOf own given s) out out′ s′
-  setup-left given s {s′} a e {out} o =
-      let found : result (answerOf a) s′ ≡ setupOf own given s = rw (← same, ← chosen) e in
-      record { answer-left = o ∙ ap (λ r. answered (r .verdict) out) found; store-left = ap (λ r. r .store) found }
+      → {out out′ : List ℕ} → out′ ≡ answered (answerOf a) out → CallLeft (setupOf own given s) out out′ s′
+  setup-left given s a e o = call-left {w = answerOf a} (rw (← same, ← chosen) e) o
+
+  pub change-left : (s : Store) (c : Change) {s′ : Store} (a : Changed) → result (changedOf a) s′ ≡ changeOf (inputOf v xn xh yn yh zn zh ch coarsest) s c
+      → {out out′ : List ℕ} → out′ ≡ answered (changedOf a) out → CallLeft (changeOf own s c) out out′ s′
+  change-left s c a e o = call-left {w = changedOf a} (rw (← same, ← chosen) e) o
 
   -- ---- what it needs
 

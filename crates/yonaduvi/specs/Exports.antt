@@ -92,9 +92,9 @@ abbrev pub listLeft : Verdict → List ℕ → List ℕ → List ℕ
 listLeft (accepted n) xs vs = laid xs 0 vs
 listLeft (refused number place) xs vs = cond (ltb number 5) xs (replicate (length xs) 0)
 
--- ---- a setup: number and place of a refusal, or 0 and the level count, and the lists
+-- ---- a setup or a change: number and place of a refusal, or 0 and the level count, and the lists
 
-pub record SetupLeft (r : Result) (out out′ : List ℕ) (s′ : Store) : Type 0 where
+pub record CallLeft (r : Result) (out out′ : List ℕ) (s′ : Store) : Type 0 where
   pub answer-left : out′ ≡ answered (r .verdict) out
   pub store-left : s′ ≡ r .store
 

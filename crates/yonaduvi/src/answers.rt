@@ -7,10 +7,12 @@ ghost use lib.ListN.{length};
 ghost use Rattle.numbers.specs.Lists.{laid};
 ghost use Rattle.lattice.specs.Check.{verdictOf};
 ghost use Rattle.store.specs.Steps.{answerOf};
+ghost use Rattle.store.specs.ChangeSteps.{changedOf};
 ghost use Rattle.yonaduvi.specs.Exports.{answered, untouched as untouchedBy, listLeft, needsWords};
 use lattice::check;
 use lattice::check::Checked;
 use numbers::lists;
+use store::change::Changed;
 use store::needs::Needs;
 use store::setup;
 use store::setup::Answer;
@@ -46,6 +48,18 @@ pub fn answer(a: Answer, out: &mut [usize])
         Answer::Twice(level) => put_two(out, 8, level),
         Answer::Short(list) => put_two(out, 6, list),
         Answer::NotFinite(level) => put_two(out, 7, level),
+    }
+}
+
+// The same of a change.
+pub fn changed(a: Changed, out: &mut [usize])
+    ensures { λ _. ⌜ now (out .exit) ≡ answered (changedOf a) (now (out .entry)) ⌝ }
+{
+    match a {
+        Changed::Answered(b) => answer(b, out),
+        Changed::NoEdge(edge) => put_two(out, 9, edge),
+        Changed::BadValue(edge) => put_two(out, 10, edge),
+        Changed::Differs(level) => put_two(out, 11, level),
     }
 }
 

@@ -1,4 +1,4 @@
-// The calls for C and Rust: a setup, what it needs, and where its rows stand. They ask nothing of their caller but that each pointer is good for its
+// The calls for C and Rust: a setup, a change, what a setup needs, and where its rows stand. They ask nothing of their caller but that each pointer is good for its
 // length: bad input gets its refusal, and what would lie past the end of a result list is left out.
 
 ghost use mathlib.Core.Path.{_≡_};
@@ -7,8 +7,12 @@ ghost use lib.ListN.{length};
 ghost use Rattle.numbers.specs.Lists.{laid};
 ghost use Rattle.store.specs.Store.{lent};
 ghost use Rattle.store.specs.Setup.{setupOf};
+ghost use Rattle.store.specs.Calls.{changeOf};
+ghost use Rattle.store.specs.ChangeSteps.{changeTo};
 ghost use Rattle.store.specs.Handed.{weightTerms, operatorRow};
-ghost use Rattle.yonaduvi.specs.Exports.{inputFrom, SetupLeft, NeedsLeft, cellsFrom, isTurned, spanned};
+ghost use Rattle.yonaduvi.specs.Exports.{inputFrom, CallLeft, NeedsLeft, cellsFrom, isTurned, spanned};
+use changes::change;
+use numbers::C64;
 use store::handed;
 use store::needed;
 use store::setup;
@@ -46,7 +50,7 @@ pub extern "C" fn yonaduvi_setup(
     ovalues: &mut [f64],
     scaling: &mut [f64],
 )
-    ensures { λ _. ⌜ SetupLeft (setupOf (inputFrom (now (cells .entry)) (now (scalars .entry)) (now (xn .entry)) (now (xh .entry)) (now (yn .entry))
+    ensures { λ _. ⌜ CallLeft (setupOf (inputFrom (now (cells .entry)) (now (scalars .entry)) (now (xn .entry)) (now (xh .entry)) (now (yn .entry))
         (now (yh .entry)) (now (zn .entry)) (now (zh .entry)) choice coarsest) (now (given .entry)) (lent (now (ends .entry)) (now (eps .entry))
         (now (starts .entry)) (now (columns .entry)) (now (values .entry)) (now (tstarts .entry)) (now (tcolumns .entry)) (now (tvalues .entry))
         (now (ostarts .entry)) (now (ocolumns .entry)) (now (ovalues .entry)) (now (scaling .entry)))) (now (out .entry)) (now (out .exit))
@@ -78,6 +82,73 @@ pub extern "C" fn yonaduvi_setup(
         scaling,
     );
     answers::answer(a, out);
+}
+
+// A change: the permittivity of edge `edge` of level 0 set to (re, im) in a store that a setup with this input left, and what it reaches worked out anew.
+// In `out` number and place of a refusal, which leaves every list as it was, or 0 and the level count.
+#[no_mangle]
+pub extern "C" fn yonaduvi_change(
+    cells: &[usize],
+    scalars: &[f64],
+    xn: &[f64],
+    xh: &[f64],
+    yn: &[f64],
+    yh: &[f64],
+    zn: &[f64],
+    zh: &[f64],
+    choice: usize,
+    coarsest: usize,
+    edge: usize,
+    re: f64,
+    im: f64,
+    out: &mut [usize],
+    ends: &[usize],
+    eps: &mut [f64],
+    starts: &[usize],
+    columns: &[usize],
+    values: &mut [f64],
+    tstarts: &[usize],
+    tcolumns: &[usize],
+    tvalues: &mut [f64],
+    ostarts: &[usize],
+    ocolumns: &[usize],
+    ovalues: &mut [f64],
+    scaling: &mut [f64],
+)
+    ensures { λ _. ⌜ CallLeft (changeOf (inputFrom (now (cells .entry)) (now (scalars .entry)) (now (xn .entry)) (now (xh .entry)) (now (yn .entry))
+        (now (yh .entry)) (now (zn .entry)) (now (zh .entry)) choice coarsest) (lent (now (ends .entry)) (now (eps .entry))
+        (now (starts .entry)) (now (columns .entry)) (now (values .entry)) (now (tstarts .entry)) (now (tcolumns .entry)) (now (tvalues .entry))
+        (now (ostarts .entry)) (now (ocolumns .entry)) (now (ovalues .entry)) (now (scaling .entry))) (changeTo edge (record { re = re; im = im })))
+        (now (out .entry)) (now (out .exit))
+        (lent (now (ends .entry)) (now (eps .exit)) (now (starts .entry)) (now (columns .entry)) (now (values .exit)) (now (tstarts .entry))
+        (now (tcolumns .entry)) (now (tvalues .exit)) (now (ostarts .entry)) (now (ocolumns .entry)) (now (ovalues .exit)) (now (scaling .exit))) ⌝ }
+{
+    let a = change::change(
+        input::lattice_from(cells, scalars),
+        xn,
+        xh,
+        yn,
+        yh,
+        zn,
+        zh,
+        input::choice_of(choice),
+        coarsest,
+        edge,
+        C64 { re, im },
+        ends,
+        eps,
+        starts,
+        columns,
+        values,
+        tstarts,
+        tcolumns,
+        tvalues,
+        ostarts,
+        ocolumns,
+        ovalues,
+        scaling,
+    );
+    answers::changed(a, out);
 }
 
 // What such a setup needs: in `out` refusals 1 to 4 (of everything but the permittivities), 5 and 8, or 0 and the level count; in `needs` the places of

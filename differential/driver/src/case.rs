@@ -14,6 +14,10 @@ pub struct Case {
     pub coarsest: usize,
     // how much longer than needed each list is that is lent for results, in doubles or words
     pub room: [i64; 8],
+    // the changes after an accepted setup, an edge and its value each
+    pub changes: Vec<(usize, c64)>,
+    // what the tries on the store begin with: spoiled calls, altered stores; 0 for none
+    pub tries: u64,
 }
 
 impl Case {
@@ -27,6 +31,8 @@ impl Case {
             lists: [ones(nx), ones(nx), ones(ny), ones(ny), ones(nz), ones(nz), ones(3 * nx * ny * nz)],
             coarsest: 0,
             room: [0; 8],
+            changes: Vec::new(),
+            tries: 0,
         }
     }
 
@@ -44,6 +50,13 @@ impl Case {
 
     pub fn phase(&self, axis: usize) -> c64 {
         c64::new(self.scalars[6 + 3 * axis], self.scalars[7 + 3 * axis])
+    }
+
+    // A number of its own for most inputs.
+    pub fn mark(&self) -> u64 {
+        let doubles = self.scalars.iter().chain(self.lists.iter().flatten()).map(|x| x.to_bits());
+        let words = self.cells.iter().chain([&self.coarsest]).map(|&n| n as u64);
+        words.chain(doubles).fold(self.tries, |m, w| (m ^ w).wrapping_mul(0x9e37_79b9_7f4a_7c15).rotate_left(23))
     }
 
     pub fn set_kind(&mut self, axis: usize, bloch: bool) {
@@ -107,6 +120,12 @@ impl Case {
         let _ = writeln!(out, "  steps, k0, shift; kind and phase of x, y, z: {:?}", self.scalars);
         if self.room != [0; 8] {
             let _ = writeln!(out, "  lent lists longer than needed by {:?}", self.room);
+        }
+        for (edge, value) in &self.changes {
+            let _ = writeln!(out, "  change: edge {edge} to {:?} + {:?}i", value.re, value.im);
+        }
+        if self.tries != 0 {
+            let _ = writeln!(out, "  tries on the store from {}", self.tries);
         }
         let names = ["x nodes", "x halves", "y nodes", "y halves", "z nodes", "z halves", "permittivities"];
         for (name, list) in names.iter().zip(&self.lists) {

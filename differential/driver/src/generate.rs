@@ -130,6 +130,40 @@ fn permittivities(random: &mut Random, n: usize, wild: bool) -> Vec<c64> {
         .collect()
 }
 
+// A value of a change: of the kinds of permittivities, or one that makes numbers that are not finite on some level, or one that is not finite or zero.
+pub fn value(random: &mut Random) -> c64 {
+    match random.below(16) {
+        0 | 1 => bad_number(random),
+        2 => c64::new(random.one_of(&[1e-320, 1e308, 5e-324, -5e-324, -1e308]), random.one_of(&[0.0, -0.0, 1.0])),
+        3 | 4 => {
+            // inverses, squares and products that leave the doubles on some level, or don't quite
+            let exponent = match random.below(3) {
+                0 => random.between(-110.0, -20.0),
+                _ => random.one_of(&[-308.0, -162.0, -157.0, -157.0, -154.0, 100.0, 150.0, 154.0, 200.0, 300.0]) + random.between(-4.0, 4.0),
+            };
+            turned(random, 10f64.powf(exponent))
+        }
+        _ => {
+            let wild = random.once_in(8);
+            permittivities(random, 1, wild)[0]
+        }
+    }
+}
+
+// A list of 1 to `most` changes of a lattice's permittivities; now and then the same edge again, or no edge.
+pub fn changes(random: &mut Random, c: &Case, most: usize) -> Vec<(usize, c64)> {
+    let n = c.edges();
+    let own = random.below(n);
+    let edge = |random: &mut Random| match random.below(8) {
+        0 => random.one_of(&[n, n + 1, usize::MAX, usize::MAX - 1, 1 << 63, 2 * n]),
+        1 => random.one_of(&[0, n - 1, n / 3, 2 * n / 3]),
+        2 | 3 => own,
+        _ => random.below(n),
+    };
+    let most = random.one_of(&[2, 5, 10, 30]).min(most);
+    (0..random.from_to(1, most)).map(|_| (edge(random), value(random))).collect()
+}
+
 fn lay(numbers: &[c64]) -> Vec<f64> {
     numbers.iter().flat_map(|z| [z.re, z.im]).collect()
 }

@@ -2,12 +2,14 @@
 //
 //     differential [SEED [LATTICES [PART/PARTS]]]     every PARTSth lattice, from PART on (1 to PARTS)
 //     differential faults [SEED [LATTICES]]           few lattices, in an order that soon notices a fault; no smaller input is looked for
-//     differential bench NAME CELLS CHOICE
+//     differential bench NAME CELLS CHOICE [EDGE]
 //     differential stack
 //     differential record FOLDER                      the calls of the test program, and what they must answer
 
 mod bench;
+mod book;
 mod case;
+mod changes;
 mod compare;
 mod generate;
 mod handed;
@@ -17,6 +19,7 @@ mod norm;
 mod numbers;
 mod ours;
 mod random;
+mod reach;
 mod record;
 mod shrink;
 mod stack;
@@ -30,10 +33,15 @@ use random::Random;
 
 struct Run {
     random: Random,
+    // for changes alone: the lattices are the same with them and without
+    changing: Random,
     counts: Counts,
     // lattices met, those compared, and which are: every `parts`th, from `part` on
     met: usize,
     lattices: u64,
+    // those with a list of changes after an accepted setup, and the last of them
+    changed: u64,
+    last_changed: usize,
     part: usize,
     parts: usize,
     // whether a departure is told of a small input
@@ -59,7 +67,13 @@ impl Run {
         if !self.own() {
             return Ok(());
         }
+        let lists = |counts: &Counts| counts.changes.lists.iter().sum::<u64>();
+        let before = lists(&self.counts);
         let Err(mut what) = compare(c, &mut self.counts) else {
+            if lists(&self.counts) > before && self.last_changed < self.met {
+                self.changed += 1;
+                self.last_changed = self.met;
+            }
             return Ok(());
         };
         if !self.shrinks {
@@ -68,6 +82,21 @@ impl Run {
         let small = shrink::smallest(c);
         what = compare(&small, &mut Counts::default()).err().unwrap_or(what);
         Err(format!("{name}, lattice {}: {what}\nthe smallest input found:\n{}", self.met, small.text()))
+    }
+
+    // The same input with a list of changes, and with tries on its store.
+    fn with_changes(&mut self, c: &Case) -> Case {
+        let most = match c.total() {
+            0..=40 => 30,
+            41..=200 => 5,
+            _ => 2,
+        };
+        let mut d = c.clone();
+        d.changes = generate::changes(&mut self.changing, c, most);
+        if self.changing.once_in(4) {
+            d.tries = self.changing.bits();
+        }
+        d
     }
 
     // The same lattice with the other kind of `coarsest`: a single level, so that level 0's rows are there, or all levels.
@@ -91,8 +120,11 @@ impl Run {
                     c.set_kind(axis, bloch[axis]);
                 }
                 self.every_coarsest("small lattices", &c)?;
-                for _ in 0..times {
-                    let c = generate::filled(&mut self.random, cells, bloch);
+                for k in 0..times {
+                    let mut c = generate::filled(&mut self.random, cells, bloch);
+                    if k % 4 == 0 {
+                        c = self.with_changes(&c);
+                    }
                     self.one("small lattices", &c)?;
                     self.other_depth("small lattices", &c)?;
                 }
@@ -113,8 +145,13 @@ impl Run {
                 d.coarsest = coarsest;
                 self.again(name, &d)?;
             }
+            // where there are many, the first few with changes
+            d.changes.truncate(3);
+            d.tries = 0;
         }
         d.coarsest = usize::MAX;
+        d.changes.clear();
+        d.tries = 0;
         self.again(name, &d)
     }
 
@@ -130,7 +167,11 @@ impl Run {
                 _ => generate::cells(&mut self.random, 12),
             };
             let bloch = generate::kinds(&mut self.random);
-            let c = generate::filled(&mut self.random, cells, bloch);
+            let mut c = generate::filled(&mut self.random, cells, bloch);
+            // of every tenth large lattice
+            if k % 4 == 2 || (k % 500 < 2 && k / 500 % 10 == 5) {
+                c = self.with_changes(&c);
+            }
             self.one("random lattices", &c)?;
             // of every tenth large lattice
             if c.total() <= 200 || k / 500 % 10 == 0 {
@@ -228,6 +269,7 @@ impl Run {
                 if (n == 14 && answer != Some(12)) || (n == 15 && answer.is_some()) {
                     return Err(format!("{n} cells that double in length: {answer:?} levels"));
                 }
+                let c = self.with_changes(&c);
                 self.every_coarsest("deep lines", &c)?;
             }
         }
@@ -294,6 +336,20 @@ fn report(lattices: u64, c: &Counts, near: &norm::Departures) {
     departures("of lines near the limit", near);
 }
 
+fn changes_report(lattices: u64, o: &changes::Counts) {
+    let by_number = |r: &[u64; 12]| -> String {
+        let listed: Vec<String> = [1, 2, 3, 4, 9, 10, 5, 8, 6, 11, 7].map(|n| format!("{n}: {}", r[n])).to_vec();
+        format!("{} refused, {}", r.iter().sum::<u64>(), listed.join(", "))
+    };
+    println!("changes   {lattices:>12}   lattices with changes: {} Galerkin, {} rediscretized lists of them", o.lists[0], o.lists[1]);
+    println!("          {:>12}   accepted, {} (7 by level {:?})", o.accepted, by_number(&o.refused), o.levels);
+    println!("          {:>12}   in lists of any lengths and words: accepted, {}", o.tried, by_number(&o.spoiled));
+    println!("          {:>12}   of altered stores or with another input: accepted, {} with another input, {} with the other choice; {}", o.found, o.inputs, o.choices,
+        by_number(&o.unsound));
+    println!("          {:>12}   stored numbers in the rows that these accepted ones reach, {} in others; the reach of {} edges is a NaN's", o.reached, o.kept, o.spread);
+    println!("          {:>12}   words and doubles compared after changes", o.places);
+}
+
 fn store_report(o: &store::Counts) {
     for choice in 0..2 {
         println!("{} {:>8}   setups, {} levels; {} operator rows, {} entries", ["Galerkin     ", "rediscretized"][choice],
@@ -339,9 +395,12 @@ fn run(args: &[String], faults: bool) -> Result<(), String> {
     println!("seed {seed}, {lattices} random lattices{}", if parts > 1 { format!(", part {part} of {parts}") } else { String::new() });
     let mut run = Run {
         random: Random::new(seed),
+        changing: Random::new(!seed),
         counts: Counts::default(),
         met: 0,
         lattices: 0,
+        changed: 0,
+        last_changed: 0,
         part,
         parts,
         shrinks: !faults,
@@ -349,11 +408,25 @@ fn run(args: &[String], faults: bool) -> Result<(), String> {
     };
     if faults { run.faults(lattices as usize) } else { run.all(lattices as usize) }?;
     report(run.lattices, &run.counts, &run.near);
+    changes_report(run.changed, &run.counts.changes);
     println!("everything equal");
     Ok(())
 }
 
+// Where code with a fault in it ends the process itself, by an index past a list's end, that is a departure too.
+fn told_when_ended() {
+    let usual = std::panic::take_hook();
+    std::panic::set_hook(Box::new(move |info| {
+        if info.location().is_some_and(|l| l.file().ends_with("unproved.rs")) {
+            println!("DEPARTURE\nthe code under test ended itself: {}", info.to_string().replace('\n', " "));
+            std::process::exit(1);
+        }
+        usual(info);
+    }));
+}
+
 fn main() {
+    told_when_ended();
     let args: Vec<String> = std::env::args().skip(1).collect();
     let told = match args.first().map(|a| a.as_str()) {
         Some("bench") => bench::run(&args[1..]),

@@ -3,6 +3,7 @@
 use crate::case::Case;
 use crate::lent::{BEHIND, doubles, words};
 use crate::store::{NUMBERS, WORDS};
+use num_complex::Complex64 as c64;
 
 unsafe extern "C" {
     fn yonaduvi_setup(
@@ -19,6 +20,23 @@ unsafe extern "C" {
         tstarts: *mut usize, tstarts_len: usize, tcolumns: *mut usize, tcolumns_len: usize,
         tvalues: *mut f64, tvalues_len: usize,
         ostarts: *mut usize, ostarts_len: usize, ocolumns: *mut usize, ocolumns_len: usize,
+        ovalues: *mut f64, ovalues_len: usize,
+        scaling: *mut f64, scaling_len: usize,
+    );
+    fn yonaduvi_change(
+        cells: *const usize, cells_len: usize, scalars: *const f64, scalars_len: usize,
+        xn: *const f64, xn_len: usize, xh: *const f64, xh_len: usize,
+        yn: *const f64, yn_len: usize, yh: *const f64, yh_len: usize,
+        zn: *const f64, zn_len: usize, zh: *const f64, zh_len: usize,
+        choice: usize, coarsest: usize,
+        edge: usize, re: f64, im: f64,
+        out: *mut usize, out_len: usize,
+        ends: *const usize, ends_len: usize, eps: *mut f64, eps_len: usize,
+        starts: *const usize, starts_len: usize, columns: *const usize, columns_len: usize,
+        values: *mut f64, values_len: usize,
+        tstarts: *const usize, tstarts_len: usize, tcolumns: *const usize, tcolumns_len: usize,
+        tvalues: *mut f64, tvalues_len: usize,
+        ostarts: *const usize, ostarts_len: usize, ocolumns: *const usize, ocolumns_len: usize,
         ovalues: *mut f64, ovalues_len: usize,
         scaling: *mut f64, scaling_len: usize,
     );
@@ -46,7 +64,7 @@ unsafe extern "C" {
     );
 }
 
-// Calls a function with the input that a setup and its needs begin with, then further arguments.
+// Calls a function with the input that a setup, a change and the needs begin with, then further arguments.
 macro_rules! call {
     ($function:ident, $c:expr, $($more:expr),*) => {{
         let c = $c;
@@ -65,7 +83,8 @@ macro_rules! call {
     }};
 }
 
-// What is lent to a setup. Each list has BEHIND places more than are lent.
+// What is lent to a setup or a change. Each list has BEHIND places more than are lent.
+#[derive(Clone)]
 pub struct Store {
     pub out: Vec<usize>,
     // line ends; starts and columns of the forward, the turned and the operator rows
@@ -91,6 +110,20 @@ pub fn setup(c: &Case, choice: usize, s: &mut Store) {
         fs.as_mut_ptr(), fs.len() - BEHIND, fc.as_mut_ptr(), fc.len() - BEHIND, fv.as_mut_ptr(), fv.len() - BEHIND,
         ts.as_mut_ptr(), ts.len() - BEHIND, tc.as_mut_ptr(), tc.len() - BEHIND, tv.as_mut_ptr(), tv.len() - BEHIND,
         os.as_mut_ptr(), os.len() - BEHIND, oc.as_mut_ptr(), oc.len() - BEHIND, ov.as_mut_ptr(), ov.len() - BEHIND,
+        scaling.as_mut_ptr(), scaling.len() - BEHIND
+    )
+}
+
+// The permittivity of an edge set to a value in such a store. The words are lent to be read alone.
+pub fn change(c: &Case, choice: usize, edge: usize, value: c64, s: &mut Store) {
+    let [ends, fs, fc, ts, tc, os, oc] = &s.words;
+    let [eps, fv, tv, ov, scaling] = &mut s.doubles;
+    call!(
+        yonaduvi_change, c, choice, c.coarsest, edge, value.re, value.im, s.out.as_mut_ptr(), s.out.len() - BEHIND,
+        ends.as_ptr(), ends.len() - BEHIND, eps.as_mut_ptr(), eps.len() - BEHIND,
+        fs.as_ptr(), fs.len() - BEHIND, fc.as_ptr(), fc.len() - BEHIND, fv.as_mut_ptr(), fv.len() - BEHIND,
+        ts.as_ptr(), ts.len() - BEHIND, tc.as_ptr(), tc.len() - BEHIND, tv.as_mut_ptr(), tv.len() - BEHIND,
+        os.as_ptr(), os.len() - BEHIND, oc.as_ptr(), oc.len() - BEHIND, ov.as_mut_ptr(), ov.len() - BEHIND,
         scaling.as_mut_ptr(), scaling.len() - BEHIND
     )
 }

@@ -1,6 +1,8 @@
 // Writes the test file of crates/store_cases, `stdin`, and what the program has to print for it, `stdout`: levels, lists and rows from the Rust, refusals
 // from the table. Nothing of the code under test is called.
 
+mod changes;
+
 use crate::case::Case;
 use crate::generate;
 use crate::random::Random;
@@ -731,6 +733,7 @@ pub fn write(folder: &str) -> Result<(), String> {
     r.rooms("4 2 1 wall on x, rediscretized", &small([4, 2, 1], 2, 0.0, 0.0), 1);
     r.fixed();
     r.not_finite();
+    r.changes();
     r.wrong_stores();
     r.sample(40);
     for (name, text) in [("stdin", &r.stdin), ("stdout", &r.stdout)] {

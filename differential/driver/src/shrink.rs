@@ -30,6 +30,14 @@ fn simpler(c: &Case) -> Vec<Case> {
         out.push(d);
     };
     with(&|d| d.room = [0; 8]);
+    with(&|d| d.tries = 0);
+    with(&|d| d.changes.clear());
+    for k in 0..c.changes.len() {
+        with(&|d| d.changes.truncate(k + 1));
+        with(&|d| d.changes = [&c.changes[..k], &c.changes[k + 1..]].concat());
+        with(&|d| d.changes[k] = (0, d.changes[k].1));
+        with(&|d| d.changes[k] = (d.changes[k].0, num_complex::Complex64::new(2.0, 0.0)));
+    }
     with(&|d| d.coarsest = 0);
     with(&|d| d.coarsest = 1);
     if c.scalars.len() >= 14 {
@@ -66,7 +74,9 @@ fn size(c: &Case) -> u64 {
     let plain = Case::plain([1, 1, 1]).scalars;
     let scalars = c.scalars.iter().zip(&plain).filter(|(a, b)| a.to_bits() != b.to_bits()).count() as u64;
     let room = c.room.iter().filter(|&&r| r != 0).count() as u64;
-    1000 * cells + 10 * (odd + scalars + room) + c.coarsest.min(5) as u64
+    let two = |z: &num_complex::Complex64| z.re == 2.0 && z.im.to_bits() == 0;
+    let changes: u64 = c.changes.iter().map(|(edge, value)| 4 + 2 * (*edge > 0) as u64 + 2 * !two(value) as u64).sum();
+    1000 * cells + 10 * (odd + scalars + room + changes + (c.tries != 0) as u64) + c.coarsest.min(5) as u64
 }
 
 pub fn smallest(c: &Case) -> Case {

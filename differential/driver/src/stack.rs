@@ -1,7 +1,7 @@
 // How much stack a call uses: it runs in a thread whose stack is a block of memory that was painted, and afterwards the lowest byte that has changed is
 // looked for.
 
-use crate::bench::{bloch, lists};
+use crate::bench::{VALUE, bloch, lists, reached};
 use crate::case::Case;
 use crate::lent::words;
 use crate::ours;
@@ -74,26 +74,52 @@ fn deep() -> Option<Case> {
     })
 }
 
-fn line(name: &str, c: &Case, choice: usize) {
+// 16 x 16 x 16 cells with 12 levels, their lengths powers of 2: of some hundred such lattices, tried at random, the one with the edge whose change reaches the
+// most numbers, and that edge.
+fn wide() -> (Case, usize) {
+    let powers = [
+        [6, 6, 9, 6, 6, 3, 3, 6, 0, 0, 6, 3, 9, 3, 9, 9],
+        [7, 6, 5, 4, 3, 2, 1, 0, 1, 2, 3, 4, 5, 6, 7, 9],
+        [11, 9, 8, 6, 6, 4, 4, 3, 1, 1, 1, 3, 4, 4, 6, 6],
+    ];
+    let mut c = bloch([16; 3]);
+    for (axis, powers) in powers.into_iter().enumerate() {
+        for (m, power) in powers.into_iter().enumerate() {
+            c.set_number(2 * axis + 1, m, c64::new(1.5 * 2f64.powi(power), 0.0));
+        }
+    }
+    (c, 10120)
+}
+
+fn line(name: &str, c: &Case, choice: usize, edge: usize) {
     let mut asked = [2, 12, 37].map(words);
     let needs = used(&mut || ours::needs(c, choice, &mut asked));
     let mut s = lists(c, choice);
     let setup = used(&mut || ours::setup(c, choice, &mut s));
-    let told = |n: Option<usize>| n.map_or("?".to_string(), |n| n.to_string());
     let levels = if s.out[0] == 0 { s.out[1].to_string() } else { format!("refused {} {}", s.out[0], s.out[1]) };
-    println!("{name:<24} {:<14} {levels:>6} {:>12} {:>12}", ["Galerkin", "rediscretized"][choice], told(setup), told(needs));
+    let change = used(&mut || ours::change(c, choice, edge, VALUE, &mut s));
+    let told = |n: Option<usize>| n.map_or("?".to_string(), |n| n.to_string());
+    let name = format!("{name}, {}", ["Galerkin", "rediscretized"][choice]);
+    println!("{name:<36} {levels:>6} {:>10} {:>10} {:>10} {:>10}", told(setup), told(needs), told(change), reached(c, choice, edge));
+    if s.out[0] != 0 {
+        println!("the change was refused: {:?}", &s.out[..2]);
+    }
 }
 
+// Bytes; of a change of one edge, and how many stored numbers stand in the rows that it reaches.
 pub fn run() -> Result<(), String> {
-    println!("{:<24} {:<14} {:>6} {:>12} {:>12}   bytes", "cells", "choice", "levels", "setup", "needs");
+    println!("{:<36} {:>6} {:>10} {:>10} {:>10} {:>10}", "cells, choice", "levels", "setup", "needs", "change", "reached");
     for choice in 0..2 {
         for (name, cells) in [("16x16x16", [16, 16, 16]), ("64x64x1", [64, 64, 1]), ("64x8x8", [64, 8, 8])] {
-            line(name, &bloch(cells), choice);
+            line(name, &bloch(cells), choice, 0);
         }
         match deep() {
-            Some(c) => line("16x16x16, long cells", &c, choice),
+            // the last edge along x
+            Some(c) => line("16x16x16, long cells", &c, choice, 15),
             None => println!("no lattice of 12 levels was found"),
         }
+        let (c, edge) = wide();
+        line("16x16x16, powers of 2", &c, choice, edge);
     }
     Ok(())
 }

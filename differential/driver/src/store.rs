@@ -119,7 +119,7 @@ pub struct Lists {
 
 pub const WORDS: [usize; 7] = [0, 2, 3, 5, 6, 8, 9];
 pub const NUMBERS: [usize; 5] = [1, 4, 7, 10, 11];
-const LISTS: [&str; 12] = [
+pub const LISTS: [&str; 12] = [
     "line ends", "permittivities", "forward starts", "forward columns", "forward numbers", "turned starts", "turned columns", "turned numbers",
     "operator starts", "operator columns", "operator numbers", "scaling",
 ];
@@ -180,7 +180,7 @@ impl Lists {
     }
 
     // What place k of a list is.
-    fn place(&self, list: usize, k: usize) -> String {
+    pub fn place(&self, list: usize, k: usize) -> String {
         let rows = [&self.forward, &self.turned, &self.operators][(list.clamp(2, 10) - 2) / 3];
         match list {
             0 => self.ends.place(k),
@@ -192,7 +192,7 @@ impl Lists {
     }
 }
 
-fn is_number(list: usize) -> bool {
+pub fn is_number(list: usize) -> bool {
     NUMBERS.contains(&list)
 }
 
@@ -227,6 +227,28 @@ impl Left<'_> {
     }
 }
 
+// Every place of the twelve lists as a call leaves it, in lists that were lent to a setup. How many words and doubles they are.
+pub fn same(what: &str, s: &ours::Store, left: Left) -> Result<u64, String> {
+    let name = |list: usize, k: usize| match left {
+        Left::Filled(e) => format!("{}, {}", LISTS[list], e.place(list, k)),
+        _ => format!("{}, place {k}", LISTS[list]),
+    };
+    let mut looked_at = 0;
+    for (q, &list) in WORDS.iter().enumerate() {
+        if let Some((k, told)) = lent::words_depart(&s.words[q], left.words(q)) {
+            return Err(format!("{what}, {}: {told}", name(list, k)));
+        }
+        looked_at += s.words[q].len() as u64;
+    }
+    for (q, &list) in NUMBERS.iter().enumerate() {
+        if let Some((k, told)) = lent::doubles_depart(&s.doubles[q], left.numbers(q)) {
+            return Err(format!("{what}, {}, {} part: {told}", name(list, k / 2), ["real", "imaginary"][k % 2]));
+        }
+        looked_at += s.doubles[q].len() as u64;
+    }
+    Ok(looked_at)
+}
+
 // One call with lists of these lengths, and `out` words for the answer.
 pub fn call(
     c: &Case,
@@ -237,26 +259,11 @@ pub fn call(
     left: Left,
     counts: &mut Counts,
 ) -> Result<ours::Store, String> {
-    let what = |list: &str| format!("{} setup, answer {answer:?}, {list}", ["Galerkin", "rediscretized"][choice.min(1)]);
+    let what = format!("{} setup, answer {answer:?}", ["Galerkin", "rediscretized"][choice.min(1)]);
     let mut s = ours::Store::lent(lengths, out);
     ours::setup(c, choice, &mut s);
-    lent::same_words(&what("out"), &s.out, lent::Left::Given(&answer))?;
-    let name = |list: usize, k: usize| match left {
-        Left::Filled(e) => format!("{}, {}", LISTS[list], e.place(list, k)),
-        _ => format!("{}, place {k}", LISTS[list]),
-    };
-    for (q, &list) in WORDS.iter().enumerate() {
-        if let Some((k, told)) = lent::words_depart(&s.words[q], left.words(q)) {
-            return Err(format!("{}: {told}", what(&name(list, k))));
-        }
-        counts.looked_at += s.words[q].len() as u64;
-    }
-    for (q, &list) in NUMBERS.iter().enumerate() {
-        if let Some((k, told)) = lent::doubles_depart(&s.doubles[q], left.numbers(q)) {
-            return Err(format!("{}, {} part: {told}", what(&name(list, k / 2)), ["real", "imaginary"][k % 2]));
-        }
-        counts.looked_at += s.doubles[q].len() as u64;
-    }
+    lent::same_words(&format!("{what}, out"), &s.out, lent::Left::Given(&answer))?;
+    counts.looked_at += same(&what, &s, left)?;
     counts.refused[answer[0]] += 1;
     if answer[0] == 6 {
         counts.short[answer[1]] += 1;

@@ -11,7 +11,7 @@ fn not_finite(x: f64) -> bool {
 }
 
 // Not finite, or zero.
-fn bad_number(re: f64, im: f64) -> bool {
+pub fn bad_number(re: f64, im: f64) -> bool {
     not_finite(re) || not_finite(im) || (re == 0.0 && im == 0.0)
 }
 
@@ -79,7 +79,27 @@ pub fn short(need: &[usize; 12], lent: &[usize; 12]) -> Option<usize> {
     (0..12).find(|&k| lent[k] < need[k]).map(|k| list[k])
 }
 
-fn all_finite(numbers: &[c64]) -> bool {
+// 11: the lowest level whose ends, starts or columns differ from the lattice's; a transfer counts as its fine level. Seven lists of words that are
+// long enough; what stands in them beyond the need is not looked at.
+pub fn differs(levels: &[Level], words: &[Vec<usize>; 7]) -> Option<usize> {
+    let mut at = [0; 7];
+    levels.iter().position(|level| {
+        let mut parts: Vec<(usize, &[usize])> = level.lines.iter().map(|line| (0, &line.ends[..])).collect();
+        if let Some((p, r)) = &level.transfer {
+            parts.extend([(1, &p.starts[..]), (2, &p.columns), (3, &r.starts), (4, &r.columns)]);
+        }
+        if let Some(o) = &level.operator {
+            parts.extend([(5, &o.starts[..]), (6, &o.columns)]);
+        }
+        parts.into_iter().any(|(list, part)| {
+            let from = at[list];
+            at[list] += part.len();
+            words[list][from..at[list]] != *part
+        })
+    })
+}
+
+pub fn all_finite(numbers: &[c64]) -> bool {
     numbers.iter().all(|z| !not_finite(z.re) && !not_finite(z.im))
 }
 
