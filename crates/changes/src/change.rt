@@ -16,14 +16,14 @@ ghost use Rattle.store.specs.Phases.{HasLines};
 ghost use Rattle.store.specs.Renewed.{fixed, five, Shaped, FiveRoom};
 ghost use Rattle.store.specs.ChangeSteps.{changedOf, changeTo, editVerdict, EdgeRenewed, changedBehind};
 use crate::compare;
-use crate::guard;
-use crate::reach;
 use lattice::check;
 use lattice::grid;
 use lattice::lattice::Lattice;
 use lattice::levels;
 use lattice::line::Line;
 use numbers::C64;
+use reach::hits;
+use renew::guard;
 use store::Choice;
 use store::change::Changed;
 use store::needs::Lengths;
@@ -47,10 +47,12 @@ fn edit(l: Lattice, edge: usize, value: C64) -> Changed
     requires { ⌜ Limits (l .grid) ⌝ }
     ensures { λ r. ⌜ changedOf r ≡ editVerdict l edge value ⌝ }
 {
-    if grid::unknowns(l.grid) <= edge {
+    let n = grid::unknowns(l.grid);
+    let bad = check::bad_number(value);
+    if n <= edge {
         return Changed::NoEdge(edge);
     }
-    if check::bad_number(value) {
+    if bad {
         return Changed::BadValue(edge);
     }
     Changed::Answered(Answer::Levels(0))
@@ -93,7 +95,7 @@ fn renew(
         (five (now (eps .exit)) (now (values .exit)) (now (tvalues .exit)) (now (ovalues .exit)) (now (scaling .exit))) ⌝ }
 {
     let mut flags = [0u64; 14976];
-    reach::raise_flags(
+    hits::raise_flags(
         choice,
         l,
         st,

@@ -6,7 +6,6 @@ use mathlib.Core.Logic.{_⊎_, inl, inr, ⊎-elim}
 use mathlib.Core.Bool.{Bool, true, false, _||_, _&&_, and-assoc, or-assoc}
 use mathlib.Core.List.{List, [], _∷_, _++_}
 use native.Mathlib.Omega.{arith}
-use native.Mathlib.Numerals.{add-one}
 use native.Mathlib.Nat.{le-refl}
 use borrow.Author.Tests.{eq-eqb, eqb-true}
 use lib.Dec.{eqb}
@@ -16,12 +15,11 @@ use lib.Ieee.{Float}
 use Rattle.numbers.specs.declared.C64.{C64}
 use Rattle.numbers.specs.Complex.{finite}
 use Rattle.numbers.specs.Places.{numberAt}
-use Rattle.numbers.specs.Lists.{In, Rises, tabulate, each, rows, placesIn, allFinite, readFrom, contains, anyFlag}
+use Rattle.numbers.specs.Lists.{In, Rises, tabulate, each, rows, placesIn, allFinite, readFrom, contains}
 use Rattle.numbers.specs.Terms.{Term, columnsOf, numbersOf, termsIn}
 use Rattle.numbers.specs.Collect.{inserted, collected}
 use Rattle.numbers.proofs.Laws.{parts, either-of, or-left, or-right, or-true, or-false}
 use Rattle.numbers.proofs.EachLaws.{columns-append}
-use Rattle.numbers.proofs.FlagLaws.{anyFlag-append}
 use Rattle.numbers.proofs.LoopLaws.{columns-one}
 use Rattle.numbers.proofs.ListLaws.{tabulate-more}
 use Rattle.numbers.proofs.TermLaws.{Holds}
@@ -130,39 +128,3 @@ pub finite-append : (vs ws : List C64) → allFinite (vs ++ ws) ≡ (allFinite v
 unfolding allFinite
 finite-append [] ws = refl
 finite-append (v ∷ vs) ws = rw (finite-append vs ws) (sym (and-assoc (finite v) (allFinite vs) (allFinite ws)))
-
--- ---- one in each row
-
--- ---- flagged positions
-
--- a loop over what f gives for the first n of a list, m of them seen
-pub record Passed (fs : List Bool) (f : ℕ → List ℕ) (cs : List ℕ) (n m : ℕ) : Type 0 where
-  pub high : m ≤ n
-  pub same : anyFlag fs (each f (drop m (take n cs))) ≡ anyFlag fs (each f (take n cs))
-
--- the next one, and what is behind it
-passed-next : (fs : List Bool) (f : ℕ → List ℕ) (cs : List ℕ) (n m : ℕ) → m < n → n ≤ length cs
-    → anyFlag fs (each f (drop m (take n cs))) ≡ (anyFlag fs (f (getD cs m 0)) || anyFlag fs (each f (drop (m + 1) (take n cs))))
-unfolding each
-passed-next fs f cs n m h room =
-    let l : length (take n cs) ≡ n = length-take-le n cs room in
-    rw (drop-cons (take n cs) m 0 (omega arith), getD-take n cs m 0 h, add-one m) (anyFlag-append fs (f (getD cs m 0)) (each f (drop (suc m) (take n cs))))
-
-module _ {fs : List Bool} {f : ℕ → List ℕ} {cs : List ℕ} {n : ℕ} where
-  pub passed-start : Passed fs f cs n 0
-  passed-start = record { high = omega arith; same = refl }
-
-  pub passed-turn : {m : ℕ} {b : Bool} → Passed fs f cs n m → m < n → n ≤ length cs → b ≡ anyFlag fs (f (getD cs m 0)) → b ≡ false → Passed fs f cs n (m + 1)
-  passed-turn {m} {b} p h room e q = record { high = omega arith; same = sym (passed-next fs f cs n m h room ∙ or-false _ _ (sym e ∙ q)) ∙ p .same }
-
-  pub passed-stop : {m : ℕ} {b : Bool} → Passed fs f cs n m → m < n → n ≤ length cs → b ≡ anyFlag fs (f (getD cs m 0)) → b ≡ true
-      → true ≡ anyFlag fs (each f (take n cs))
-  passed-stop {m} {b} p h room e q = sym (passed-next fs f cs n m h room ∙ or-true _ _ (sym e ∙ q) ∙ sym e ∙ q) ∙ p .same
-
-  pub passed-end : {m : ℕ} → Passed fs f cs n m → n ≤ m → n ≤ length cs → false ≡ anyFlag fs (each f (take n cs))
-  unfolding each anyFlag
-  passed-end {m} p h room =
-      let l : length (take n cs) ≡ n = length-take-le n cs room in
-      let e : m ≡ length (take n cs) = omega (arith, p .high) in
-      let d : drop m (take n cs) ≡ [] = rw e (drop-length (take n cs)) in
-      rw d at (p .same)

@@ -129,6 +129,12 @@ pub either-of : (a b : Bool) → (a || b) ≡ true → (a ≡ true) ⊎ (b ≡ t
 either-of true b h = inl h
 either-of false b h = inr h
 
+-- two answers that follow from each other are the same
+pub bool-same : (a b : Bool) → (a ≡ true → b ≡ true) → (b ≡ true → a ≡ true) → a ≡ b
+bool-same true b f g = sym (f refl)
+bool-same false true f g = g refl
+bool-same false false f g = refl
+
 pub or-left : {a : Bool} (b : Bool) → a ≡ true → (a || b) ≡ true
 or-left b h = rw h
 

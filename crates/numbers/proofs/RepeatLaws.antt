@@ -1,8 +1,6 @@
 -- Laws of repetition: lists and rows without it, and the loops that search for a column that stands twice.
 -- Assumes nothing.
 use Prim.Native.Nat.{ℕ, zero, suc, _+_, _-_, _<_, _≤_}
-use native.Mathlib.Decide.{decLt}
-use native.Mathlib.Numerals.{add-one}
 use native.Mathlib.Omega.{arith}
 use mathlib.Core.Logic.{_≢_}
 use mathlib.Core.Path.{_≡_, refl, sym, ap, _∙_}
@@ -120,45 +118,3 @@ module _ {cs : List ℕ} {n m : ℕ} (p : Comparing cs n m) where
   comparing-end h =
       let k : repeats (placesIn cs m (n - m)) ≡ false = rw (tabulate-done (entryAt cs) n m h) in
       sym k ∙ p .same
-
--- ---- whether one of n rows does: none of the first r does
-
-pub record Passing (row : ℕ → List ℕ) (n r : ℕ) : Type 0 where
-  pub high : r ≤ n
-  pub none-yet : someRepeats row r ≡ false
-
--- where one of the first k rows repeats, one of more rows does
-some-more : (row : ℕ → List ℕ) (k n : ℕ) → k ≤ n → someRepeats row k ≡ true → someRepeats row n ≡ true
-unfolding someRepeats
-some-more row k zero h e = let z : k ≡ 0 = omega arith in rw z at e
-some-more row k (suc n) h e = go (decLt k (suc n)) (λ j. some-more row k n j e)
-  where
-    go : Dec (k < suc n) → (k ≤ n → someRepeats row n ≡ true) → someRepeats row (suc n) ≡ true
-    go (yes b) r = rw (r (omega arith))
-    go (no b) r = let z : k ≡ suc n = omega arith in rw z at e
-
-pub passing-start : {row : ℕ → List ℕ} {n : ℕ} → Passing row n 0
-unfolding someRepeats
-passing-start = record { high = omega arith; none-yet = refl }
-
-module _ {row : ℕ → List ℕ} {n r : ℕ} {b : Bool} (p : Passing row n r) (h : r < n) (e : b ≡ repeats (row r)) where
-  pub passing-hit : b ≡ true → true ≡ someRepeats row n
-  unfolding someRepeats
-  passing-hit t =
-      let k : someRepeats row (suc r) ≡ true = rw (p .none-yet, ← e, t) in
-      sym (some-more row (suc r) n (omega arith) k)
-
-  pub passing-turn : b ≡ false → Passing row n (r + 1)
-  unfolding someRepeats
-  passing-turn t = record { high = omega arith; none-yet = rw (add-one r, p .none-yet, ← e, t) }
-
-pub passing-end : {row : ℕ → List ℕ} {n r : ℕ} → Passing row n r → n ≤ r → false ≡ someRepeats row n
-passing-end {row} {n} {r} p h = let e : r ≡ n = omega (arith, p .high) in sym (rw e at (p .none-yet))
-
--- rows that agree repeat the same
-pub repeats-agree : (f g : ℕ → List ℕ) (n : ℕ) → ((r : ℕ) → r < n → f r ≡ g r) → someRepeats f n ≡ someRepeats g n
-unfolding someRepeats
-repeats-agree f g zero h = refl
-repeats-agree f g (suc n) h =
-    let before : someRepeats f n ≡ someRepeats g n = repeats-agree f g n (λ r b. h r (omega arith)) in
-    rw (before, h n (omega arith))

@@ -107,6 +107,11 @@ unfoldable pub anyFlag : List Bool → List ℕ → Bool
 anyFlag fs [] = false
 anyFlag fs (c ∷ cs) = getD fs c false || anyFlag fs cs
 
+-- the flags at some positions have been set if b says so, and no other has changed
+pub record Marked (b : Bool) (cs : List ℕ) (xs ys : List Bool) : Type 0 where
+  pub same-long : length ys ≡ length xs
+  pub each-is : (c : ℕ) → getD ys c false ≡ (getD xs c false || (b && contains c cs))
+
 -- a reader of the numbers of a list from place `from` on
 unfoldable pub readFrom : List Float → ℕ → ℕ → C64
 readFrom xs from r = numberAt xs (from + r)

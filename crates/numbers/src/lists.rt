@@ -1,12 +1,13 @@
 // Values laid into lent lists, one in each place.
 
 ghost use mathlib.Core.Path.{_≡_};
-ghost use mathlib.Core.Bool.{false};
+ghost use mathlib.Core.Bool.{true, false};
 ghost use mathlib.Core.List.{[], _∷_};
 ghost use Prim.Native.Nat.{_+_, _-_, _*_, _<_, _≤_, _^_, min};
 ghost use lib.ListN.{length, getD, set, replicate};
 ghost use Rattle.numbers.specs.Places.{setNumber, numberAt};
-ghost use Rattle.numbers.specs.Lists.{tabulate, Laid, allFinite, anyFlag, placesIn, contains as containsIn, repeats as repeatsIn};
+ghost use Rattle.numbers.specs.Lists.{tabulate, Laid, allFinite, anyFlag, Marked, placesIn, contains as containsIn, repeats as repeatsIn};
+ghost use Rattle.numbers.specs.Terms.{Below};
 use crate::C64;
 
 // The lesser of two whole numbers.
@@ -83,6 +84,18 @@ pub fn any_flag(flags: &[bool], columns: &[usize], k: usize, n: usize) -> bool
         }
     }
     false
+}
+
+// The flag of each of the first n columns is set. `requires`: the list has them, and there is a flag for each.
+pub fn mark_each(flags: &mut [bool], columns: &[usize], n: usize)
+    requires { ⌜ n ≤ length (now columns) ⌝ }
+    requires { ⌜ Below (length (now flags)) (now columns) n ⌝ }
+    ensures { λ _. ⌜ Marked true (placesIn (now (columns .entry)) 0 n) (now (flags .entry)) (now (flags .exit)) ⌝ }
+{
+    for m in 0..n {
+        let c = columns[m];
+        flags[c] = true;
+    }
 }
 
 // Whether one of the columns from place m to place n - 1 is c.

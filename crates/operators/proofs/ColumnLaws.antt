@@ -1,18 +1,20 @@
 -- Columns laid over a list, turn by turn.
 -- Assumes nothing.
 use Prim.Native.Nat.{ℕ, zero, suc, _+_, _-_, _*_, _<_, _≤_}
-use mathlib.Core.Path.{_≡_, refl, sym, _∙_}
+use mathlib.Core.Path.{_≡_, refl, sym, _∙_, subst}
 use mathlib.Core.List.{List, [], _∷_, _++_}
 use mathlib.Core.Bool.{Bool, true, false}
 use native.Mathlib.Omega.{arith}
-use native.Mathlib.Nat.{add-zero, mul-le-mul, sub-zero}
+use native.Mathlib.Nat.{add-zero, mul-le-mul, mul-suc, mul-zero, sub-zero}
+use native.Mathlib.Decide.{decLt}
 use native.Mathlib.Numerals.{add-one}
 use lib.ListN.{length, set, length-append}
 use lib.Seq.{sets, length-sets, set-out}
-use Rattle.operators.specs.Bits.{bitAt, mixOf}
+use Rattle.operators.specs.Bits.{bitAt, mixOf, NextPlace}
 use Rattle.operators.specs.Columns.{keep, line, plane, block, row, Listed}
 use Rattle.operators.specs.declared.columns.Picks.{Picks}
-use Rattle.operators.proofs.WordLaws.{bit-none}
+use Rattle.operators.proofs.WordLaws.{bit-none, mix-none}
+use Rattle.operators.proofs.WordPlaces.{next-same, union-none}
 
 pub sets-append : (us vs xs : List ℕ) (at : ℕ) → sets xs at (us ++ vs) ≡ sets (sets xs at us) (at + length us) vs
 sets-append [] vs xs at = rw (add-zero at)
@@ -53,23 +55,11 @@ line-length w base (suc n) i = go (bitAt w i) (line-length w base n (suc i))
     go true h = omega arith
     go false h = omega arith
 
-keep-split : (t : Bool) (v : ℕ) (vs : List ℕ) → keep t v vs ≡ keep t v [] ++ vs
-keep-split true v vs = refl
-keep-split false v vs = refl
-
 line-step : (w base n i : ℕ) → i < n → line w base (n - i) i ≡ keep (bitAt w i) (base + i) (line w base (n - (i + 1)) (i + 1))
 unfolding line
 line-step w base n i h =
     let e : n - i ≡ suc (n - (i + 1)) = omega arith in
     rw (e, add-one i)
-
-pub line-turn : {xs₀ : List ℕ} {at₀ : ℕ} {whole xs ys : List ℕ} {at r : ℕ} {b : Bool} (w base n i : ℕ)
-    → Laid xs₀ at₀ whole xs at (line w base (n - i) i) → i < n → b ≡ bitAt w i → Listed xs at (keep b (base + i) []) ys r
-    → Laid xs₀ at₀ whole ys r (line w base (n - (i + 1)) (i + 1))
-line-turn {xs₀} {at₀} {whole} {xs} {ys} {at} {r} {b} w base n i l h e o = laid-part (keep b (base + i) []) (line w base (n - (i + 1)) (i + 1)) (rw t at l) o
-  where
-    t : line w base (n - i) i ≡ keep b (base + i) [] ++ line w base (n - (i + 1)) (i + 1)
-    t = line-step w base n i h ∙ rw (← e) (keep-split b (base + i) (line w base (n - (i + 1)) (i + 1)))
 
 pub line-done : (w base n i : ℕ) → n ≤ i → line w base (n - i) i ≡ []
 unfolding line
@@ -77,8 +67,29 @@ line-done w base n i h =
     let e : n - i ≡ 0 = omega arith in
     rw e
 
-pub line-start : {xs : List ℕ} {at : ℕ} (w base n : ℕ) → Laid xs at (line w base n 0) xs at (line w base (n - 0) 0)
-line-start w base n = rw (sub-zero n) laid-start
+-- a place that w has not
+line-pass : (w base n i : ℕ) → bitAt w i ≡ false → line w base (n - i) i ≡ line w base (n - suc i) (suc i)
+line-pass w base n i e = go (decLt i n)
+  where
+    go : Dec (i < n) → line w base (n - i) i ≡ line w base (n - suc i) (suc i)
+    go (yes h) = line-step w base n i h ∙ rw (e, add-one i)
+    go (no h) = line-done w base n i (omega arith) ∙ sym (line-done w base n (suc i) (omega arith))
+
+-- the places up to w's next one
+line-next : {i r : ℕ} (w base n : ℕ) → NextPlace w i r → line w base (n - i) i ≡ line w base (n - r) r
+line-next w base n o = next-same w (λ k. line w base (n - k) k) (line-pass w base n) o
+
+pub line-turn : {xs₀ : List ℕ} {at₀ : ℕ} {whole xs ys : List ℕ} {at r j : ℕ} (w base n i : ℕ)
+    → Laid xs₀ at₀ whole xs at (line w base (n - i) i) → i < n → bitAt w i ≡ true → Listed xs at (keep true (base + i) []) ys r → NextPlace w (i + 1) j
+    → Laid xs₀ at₀ whole ys r (line w base (n - j) j)
+line-turn {xs₀} {at₀} {whole} {xs} {ys} {at} {r} {j} w base n i l h e o next =
+    laid-part ((base + i) ∷ []) (line w base (n - j) j) (subst (Laid xs₀ at₀ whole xs at) t l) o
+  where
+    t : line w base (n - i) i ≡ (base + i) ∷ line w base (n - j) j
+    t = line-step w base n i h ∙ rw (e, line-next w base n next)
+
+pub line-start : {xs : List ℕ} {at i : ℕ} (w base n : ℕ) → NextPlace w 0 i → Laid xs at (line w base n 0) xs at (line w base (n - i) i)
+line-start {xs} {at} w base n o = subst (Laid xs at (line w base n 0) xs at) (line-next w base n o) (rw (sub-zero n) laid-start)
 
 pub line-end : {xs₀ : List ℕ} {at₀ : ℕ} {whole xs : List ℕ} {at : ℕ} (w base n i : ℕ)
     → Laid xs₀ at₀ whole xs at (line w base (n - i) i) → n ≤ i → Listed xs₀ at₀ whole xs at
@@ -92,15 +103,16 @@ line-none base (suc n) i = rw (bit-none i) (line-none base n (suc i))
 pub listed-none : {xs : List ℕ} {at : ℕ} {columns : List ℕ} → columns ≡ [] → Listed xs at columns xs at
 listed-none {xs} {at} e = rw e (record { list = refl; next = sym (add-zero at) })
 
-pub line-empty : {xs : List ℕ} {at : ℕ} {w : ℕ} (base n : ℕ) → w ≡ 0 → Listed xs at (line w base n 0) xs at
-line-empty base n e = listed-none (rw e (line-none base n 0))
-
 pub listed-append : {xs ys zs : List ℕ} {at r q : ℕ} (us vs : List ℕ) → Listed xs at us ys r → Listed ys r vs zs q → Listed xs at (us ++ vs) zs q
 listed-append {xs} {ys} {zs} {at} {r} {q} us vs p o =
     record {
       list = o .list ∙ rw (p .list, p .next) (sym (sets-append us vs xs at));
       next = omega (arith, length-append us vs, p .next, o .next);
     }
+
+-- the start of the next line or plane
+next-start : (base size k : ℕ) → base + size * k + size ≡ base + size * (k + 1)
+next-start base size k = rw (add-one k, mul-suc size k) (omega arith)
 
 -- planes
 module _ (s t a b nx : ℕ) where
@@ -119,31 +131,54 @@ module _ (s t a b nx : ℕ) where
       let e : n - j ≡ suc (n - (j + 1)) = omega arith in
       rw (e, add-one j)
 
-  pub plane-turn : {xs₀ : List ℕ} {at₀ : ℕ} {whole xs ys : List ℕ} {at r : ℕ} {u v : Bool} {w : ℕ} (start n j : ℕ)
-      → Laid xs₀ at₀ whole xs at (plane s t a b nx start (n - j) j) → j < n → u ≡ bitAt a j → v ≡ bitAt b j → w ≡ mixOf u t v s
-      → Listed xs at (line w start nx 0) ys r
-      → Laid xs₀ at₀ whole ys r (plane s t a b nx (start + nx) (n - (j + 1)) (j + 1))
-  plane-turn {w = w} start n j l h p q e o =
-      laid-part (line w start nx 0) (plane s t a b nx (start + nx) (n - (j + 1)) (j + 1))
-      (rw (plane-step start n j h, ← p, ← q, ← e) at l) o
+  plane-done : (start n j : ℕ) → n ≤ j → plane s t a b nx start (n - j) j ≡ []
+  unfolding plane
+  plane-done start n j h =
+      let e : n - j ≡ 0 = omega arith in
+      rw e
 
-  pub plane-start : {xs : List ℕ} {at : ℕ} (start n : ℕ) → Laid xs at (plane s t a b nx start n 0) xs at (plane s t a b nx start (n - 0) 0)
-  plane-start start n = rw (sub-zero n) laid-start
+  abbrev both : ℕ
+  both = mixOf true a true b
+
+  -- a line that neither has
+  plane-pass : (base n j : ℕ) → bitAt both j ≡ false → plane s t a b nx (base + nx * j) (n - j) j ≡ plane s t a b nx (base + nx * suc j) (n - suc j) (suc j)
+  plane-pass base n j e = go (decLt j n) (union-none a b j e)
+    where
+      go : Dec (j < n) → (bitAt a j ≡ false) × (bitAt b j ≡ false)
+          → plane s t a b nx (base + nx * j) (n - j) j ≡ plane s t a b nx (base + nx * suc j) (n - suc j) (suc j)
+      go (yes h) (u, v) = plane-step (base + nx * j) n j h ∙ rw (u, v, mix-none t s, line-none (base + nx * j) nx 0, next-start base nx j, add-one j)
+      go (no h) _ = plane-done (base + nx * j) n j (omega arith) ∙ sym (plane-done (base + nx * suc j) n (suc j) (omega arith))
+
+  -- the lines up to the next one that a or b has
+  plane-next : {i r : ℕ} (base n : ℕ) → NextPlace both i r → plane s t a b nx (base + nx * i) (n - i) i ≡ plane s t a b nx (base + nx * r) (n - r) r
+  plane-next base n o = next-same both (λ k. plane s t a b nx (base + nx * k) (n - k) k) (plane-pass base n) o
+
+  pub plane-turn : {xs₀ : List ℕ} {at₀ : ℕ} {whole xs ys : List ℕ} {at r i : ℕ} {u v : Bool} {w both′ : ℕ} (base n j : ℕ)
+      → Laid xs₀ at₀ whole xs at (plane s t a b nx (base + nx * j) (n - j) j) → j < n → u ≡ bitAt a j → v ≡ bitAt b j → w ≡ mixOf u t v s
+      → Listed xs at (line w (base + nx * j) nx 0) ys r → both′ ≡ both → NextPlace both′ (j + 1) i
+      → Laid xs₀ at₀ whole ys r (plane s t a b nx (base + nx * i) (n - i) i)
+  plane-turn {xs₀} {at₀} {whole} {xs} {ys} {at} {r} {i} {w = w} base n j l h p q e o same next =
+      laid-part (line w (base + nx * j) nx 0) (plane s t a b nx (base + nx * i) (n - i) i) (subst (Laid xs₀ at₀ whole xs at) turn l) o
+    where
+      turn : plane s t a b nx (base + nx * j) (n - j) j ≡ line w (base + nx * j) nx 0 ++ plane s t a b nx (base + nx * i) (n - i) i
+      turn = plane-step (base + nx * j) n j h ∙ rw (← p, ← q, ← e, next-start base nx j, plane-next base n (subst (λ (x : ℕ). NextPlace x (j + 1) i) same next))
+
+  pub plane-start : {xs : List ℕ} {at j both′ : ℕ} (base n : ℕ) → both′ ≡ both → NextPlace both′ 0 j
+      → Laid xs at (plane s t a b nx base n 0) xs at (plane s t a b nx (base + nx * j) (n - j) j)
+  plane-start {xs} {at} {j} base n same next =
+      subst (Laid xs at (plane s t a b nx base n 0) xs at) (first ∙ plane-next base n (subst (λ (x : ℕ). NextPlace x 0 j) same next)) laid-start
+    where
+      first : plane s t a b nx base n 0 ≡ plane s t a b nx (base + nx * 0) (n - 0) 0
+      first = rw (mul-zero nx, add-zero base, sub-zero n)
 
   pub plane-end : {xs₀ : List ℕ} {at₀ : ℕ} {whole xs : List ℕ} {at : ℕ} (start n j : ℕ)
       → Laid xs₀ at₀ whole xs at (plane s t a b nx start (n - j) j) → n ≤ j → Listed xs₀ at₀ whole xs at
-  unfolding plane
-  plane-end start n j l h =
-      let e : n - j ≡ 0 = omega arith in
-      laid-end (rw e at l)
+  plane-end start n j l h = laid-end (rw (plane-done start n j h) at l)
 
 plane-none : (s t nx start n j : ℕ) → plane s t 0 0 nx start n j ≡ []
-unfolding plane mixOf
+unfolding plane
 plane-none s t nx start zero j = refl
-plane-none s t nx start (suc n) j = rw (bit-none j, line-none start nx 0) (plane-none s t nx (start + nx) n (suc j))
-
-pub plane-empty : {xs : List ℕ} {at : ℕ} {a b : ℕ} (s t nx start n : ℕ) → a ≡ 0 → b ≡ 0 → Listed xs at (plane s t a b nx start n 0) xs at
-plane-empty s t nx start n e f = listed-none (rw (e, f) (plane-none s t nx start n 0))
+plane-none s t nx start (suc n) j = rw (bit-none j, mix-none t s, line-none start nx 0) (plane-none s t nx (start + nx) n (suc j))
 
 -- blocks
 module _ (p : Picks) (nx ny : ℕ) where
@@ -165,24 +200,64 @@ module _ (p : Picks) (nx ny : ℕ) where
       let e : n - k ≡ suc (n - (k + 1)) = omega arith in
       rw (e, add-one k)
 
-  pub block-turn : {xs₀ : List ℕ} {at₀ : ℕ} {whole xs ys : List ℕ} {at r : ℕ} {u v : Bool} {a b : ℕ} (start n k : ℕ)
-      → Laid xs₀ at₀ whole xs at (block p nx ny start (n - k) k) → k < n
-      → u ≡ bitAt (p .sz) k → a ≡ mixOf u (p .sy) false 0 → v ≡ bitAt (p .tz) k → b ≡ mixOf u (p .ty) v (p .sy)
-      → Listed xs at (plane (p .sx) (p .tx) a b nx start ny 0) ys r
-      → Laid xs₀ at₀ whole ys r (block p nx ny (start + nx * ny) (n - (k + 1)) (k + 1))
-  block-turn {a = a} {b = b} start n k l h eu ea ev eb o =
-      laid-part (plane (p .sx) (p .tx) a b nx start ny 0) (block p nx ny (start + nx * ny) (n - (k + 1)) (k + 1))
-      (rw (block-step start n k h, ← eu, ← ev, ← ea, ← eb) at l) o
+  block-done : (start n k : ℕ) → n ≤ k → block p nx ny start (n - k) k ≡ []
+  unfolding block
+  block-done start n k h =
+      let e : n - k ≡ 0 = omega arith in
+      rw e
 
-  pub block-start : {xs : List ℕ} {at : ℕ} (start n : ℕ) → Laid xs at (block p nx ny start n 0) xs at (block p nx ny start (n - 0) 0)
-  block-start start n = rw (sub-zero n) laid-start
+  abbrev levels : ℕ
+  levels = mixOf true (p .sz) true (p .tz)
+
+  -- the planes from k on, the first of all at base
+  abbrev planes : ℕ → ℕ → ℕ → List ℕ
+  planes base n k = block p nx ny (base + nx * ny * k) (n - k) k
+
+  -- a plane that neither has
+  block-pass : (base n k : ℕ) → bitAt levels k ≡ false → planes base n k ≡ planes base n (suc k)
+  block-pass base n k e = go (decLt k n) (union-none (p .sz) (p .tz) k e)
+    where
+      go : Dec (k < n) → (bitAt (p .sz) k ≡ false) × (bitAt (p .tz) k ≡ false) → planes base n k ≡ planes base n (suc k)
+      go (yes h) (u, v) =
+          block-step (base + nx * ny * k) n k h
+          ∙ rw (
+            u,
+            v,
+            mix-none (p .sy) 0,
+            mix-none (p .ty) (p .sy),
+            plane-none (p .sx) (p .tx) nx (base + nx * ny * k) ny 0,
+            next-start base (nx * ny) k,
+            add-one k,
+          )
+      go (no h) _ = block-done (base + nx * ny * k) n k (omega arith) ∙ sym (block-done (base + nx * ny * suc k) n (suc k) (omega arith))
+
+  -- the planes up to the next one that sz or tz has
+  block-next : {i r : ℕ} (base n : ℕ) → NextPlace levels i r → planes base n i ≡ planes base n r
+  block-next base n o = next-same levels (planes base n) (block-pass base n) o
+
+  pub block-turn : {xs₀ : List ℕ} {at₀ : ℕ} {whole xs ys : List ℕ} {at r i : ℕ} {u v : Bool} {a b both : ℕ} (base n k : ℕ)
+      → Laid xs₀ at₀ whole xs at (planes base n k) → k < n
+      → u ≡ bitAt (p .sz) k → a ≡ mixOf u (p .sy) false 0 → v ≡ bitAt (p .tz) k → b ≡ mixOf u (p .ty) v (p .sy)
+      → Listed xs at (plane (p .sx) (p .tx) a b nx (base + nx * ny * k) ny 0) ys r → both ≡ levels → NextPlace both (k + 1) i
+      → Laid xs₀ at₀ whole ys r (planes base n i)
+  block-turn {xs₀} {at₀} {whole} {xs} {ys} {at} {r} {i} {a = a} {b = b} base n k l h eu ea ev eb o same next =
+      laid-part (plane (p .sx) (p .tx) a b nx (base + nx * ny * k) ny 0) (planes base n i) (subst (Laid xs₀ at₀ whole xs at) turn l) o
+    where
+      turn : planes base n k ≡ plane (p .sx) (p .tx) a b nx (base + nx * ny * k) ny 0 ++ planes base n i
+      turn =
+          block-step (base + nx * ny * k) n k h
+          ∙ rw (← eu, ← ev, ← ea, ← eb, next-start base (nx * ny) k, block-next base n (subst (λ (x : ℕ). NextPlace x (k + 1) i) same next))
+
+  pub block-start : {xs : List ℕ} {at k both : ℕ} (base n : ℕ) → both ≡ levels → NextPlace both 0 k → Laid xs at (block p nx ny base n 0) xs at (planes base n k)
+  block-start {xs} {at} {k} base n same next =
+      subst (Laid xs at (block p nx ny base n 0) xs at) (first ∙ block-next base n (subst (λ (x : ℕ). NextPlace x 0 k) same next)) laid-start
+    where
+      first : block p nx ny base n 0 ≡ planes base n 0
+      first = rw (mul-zero (nx * ny), add-zero base, sub-zero n)
 
   pub block-end : {xs₀ : List ℕ} {at₀ : ℕ} {whole xs : List ℕ} {at : ℕ} (start n k : ℕ)
       → Laid xs₀ at₀ whole xs at (block p nx ny start (n - k) k) → n ≤ k → Listed xs₀ at₀ whole xs at
-  unfolding block
-  block-end start n k l h =
-      let e : n - k ≡ 0 = omega arith in
-      laid-end (rw e at l)
+  block-end start n k l h = laid-end (rw (block-done start n k h) at l)
 
 pub area : (nx ny : ℕ) → nx ≤ 64 → ny ≤ 64 → nx * ny ≤ 4096
 area nx ny h g = omega (arith, mul-le-mul h g)
@@ -207,7 +282,3 @@ put-one {xs} {at} b v e = rw e (record { list = refl; next = refl })
 
 pub put-out : {xs : List ℕ} {at : ℕ} (b : Bool) (v : ℕ) → b ≡ true → length xs ≤ at → Listed xs at (keep b v []) xs (at + 1)
 put-out {xs} {at} b v e h = rw e (record { list = sym (set-out xs at v h); next = refl })
-
-pub keep-length : (b : Bool) (v : ℕ) → length (keep b v []) ≤ 1
-keep-length true v = omega arith
-keep-length false v = omega arith

@@ -35,14 +35,10 @@ use Rattle.operators.proofs.ForwardPattern.{axisNo, three, row-three, r
 use Rattle.operators.proofs.GalerkinPattern.{edgeOf, positionOf, inside, row-spans, galerkin-low, galerkin-in}
 use Rattle.operators.proofs.PatternTheorem.{row-fixed}
 use Rattle.operators.proofs.StencilRow.{placed}
-use Rattle.operators.proofs.RelationLaws.{and-both, both-and}
+use Rattle.operators.proofs.RelationLaws.{and-both, both-and, neither}
 use Rattle.operators.proofs.TableLevels.{right-picked}
 
 -- ---- an edge that is not fixed is live on every axis
-
-neither : (a b : Bool) → (a || b) ≡ false → (a ≡ false) × (b ≡ false)
-neither true b h = absurd (false≢true (sym h))
-neither false b h = (refl, h)
 
 module _ (l : FullLattice) (p : Position) where
   -- fixed on axis d

@@ -1,6 +1,7 @@
 pub mod RelationLaws
 pub mod PatternTheorem
 pub mod WordLaws
+pub mod WordPlaces
 pub mod ColumnLaws
 pub mod ColumnMeaning
 pub mod ColumnWhole
@@ -10,12 +11,14 @@ pub mod TableLevels
 pub mod Sound
 pub mod Level0
 pub mod BaseLaws
+pub mod BasePlaces
 pub mod StencilLaws
 pub mod NeighbourSpots
 pub mod ListedPlaces
 pub mod DifferencePlaces
 pub mod StencilRow
 pub mod StencilPattern
+pub mod MutualRows
 pub mod ReachLaws
 pub mod ForwardPattern
 pub mod RowMembers

@@ -16,6 +16,10 @@ and-both false b h = absurd (false≢true h)
 pub both-and : {a b : Bool} → a ≡ true → b ≡ true → (a && b) ≡ true
 both-and h g = rw (h, g)
 
+pub neither : (a b : Bool) → (a || b) ≡ false → (a ≡ false) × (b ≡ false)
+neither true b h = absurd (false≢true (sym h))
+neither false b h = (refl, h)
+
 -- the bounded search finds a place if there is one
 pub found : (n : ℕ) (p : ℕ → Bool) → some n p ≡ true → (k : ℕ) × (k < n) × (p k ≡ true)
 unfolding some

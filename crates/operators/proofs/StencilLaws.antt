@@ -8,14 +8,14 @@ use mathlib.Core.List.{List, [], _∷_, _++_, List·Memᴰ as Member}
 use native.Mathlib.Omega.{arith}
 use native.Mathlib.Numerals.{add-one}
 use borrow.Author.Tests.{not-true, not-false}
-use lib.ListN.{length, getD, set, take}
+use lib.ListN.{length, set, take}
 use lib.Ieee.{Float, ne}
 use lib.Ieee as Ieee
 use Rattle.numbers.specs.declared.C64.{C64}
 use Rattle.numbers.specs.Complex.{zeroF}
 use Rattle.numbers.specs.Places.{numberAt}
-use Rattle.numbers.specs.Lists.{tabulate, each, rows, Laid, laidNumbers, allFinite, placesIn, contains, startOf, startsOf, anyFlag}
-use Rattle.numbers.specs.Terms.{Term, columnsOf, termsIn, Wrote, numbersOf, LaidRows}
+use Rattle.numbers.specs.Lists.{tabulate, each, rows, Laid, laidNumbers, allFinite, placesIn, contains, startOf, startsOf, Marked}
+use Rattle.numbers.specs.Terms.{Term, columnsOf, termsIn, Wrote, Below, numbersOf, LaidRows}
 use Rattle.numbers.specs.Collect.{inserted, collected, atFirst}
 use Rattle.numbers.proofs.Equations.{collected-nil, collected-cons, rows-zero, rows-suc, numbersOf-nil, allFinite-nil, startOf-is}
 use Rattle.numbers.proofs.TermLaws.{Holds, length-in, columns-held, wrote-none, wrote-append, wrote-columns, wrote-numbers, wrote-most}
@@ -32,7 +32,7 @@ use Rattle.lattice.proofs.RowLaws.{row-most, row-local}
 use Rattle.lattice.proofs.Equations.{freeOf-nil, freeOf-cons, freeColumns-is}
 use Rattle.operators.specs.Stencil.{shiftNumber, shiftTerms, stencilRow, stencilReads}
 use Rattle.numbers.proofs.GatheredLaws.{in-collected, in-gathered, places-held, numbers-held, finite-append}
-use Rattle.numbers.proofs.FlagLaws.{anyFlag-nil, anyFlag-cons}
+use Rattle.numbers.proofs.MarkedLaws.{marked-nil, marked-one, marked-append, marked-as}
 use Rattle.lattice.proofs.ColumnLaws.{row-own, row-reads, own-read}
 
 -- the shift as a term
@@ -217,50 +217,33 @@ module _ {row : ℕ → List Term} {n s k : ℕ} {ss₀ cs₀ : List ℕ} {xs₀
 
 -- ---- what a row reads
 
-module _ (l : FullLattice) (fs : List Bool) where
-  -- an edge is flagged and not fixed
-  free-flag : (c : ℕ) → anyFlag fs (freeOf l (c ∷ [])) ≡ (getD fs c false && not (isFixed l c))
-  free-flag c = rw (freeOf-cons l c [], freeOf-nil l) (go (isFixed l c))
-    where
-      last : (a : Bool) → (a || false) ≡ (a && true)
-      last true = refl
-      last false = refl
+pub below-more : {b d n : ℕ} {cs : List ℕ} → Below b cs n → b ≤ d → Below d cs n
+below-more w h = record { low = λ m i. omega (arith, w .low m i) }
 
-      none : (a : Bool) → false ≡ (a && false)
-      none true = refl
-      none false = refl
+module _ (l : FullLattice) where
+  -- the flag of an edge, set unless it is fixed
+  module _ (c : ℕ) {b : Bool} {xs : List Bool} (e : b ≡ isFixed l c) where
+    pub edge-fixed : b ≡ true → Marked true (freeOf l (c ∷ [])) xs xs
+    edge-fixed h = marked-as marked-nil (sym (rw (freeOf-cons l c [], freeOf-nil l, ← e, h))) refl
 
-      go : (b : Bool) → anyFlag fs (cond b [] (c ∷ [])) ≡ (getD fs c false && not b)
-      go true = anyFlag-nil fs ∙ none (getD fs c false)
-      go false = rw (anyFlag-cons fs c [], anyFlag-nil fs) (last (getD fs c false))
+    pub edge-free : b ≡ false → c < length xs → Marked true (freeOf l (c ∷ [])) xs (set xs c true)
+    edge-free h room = marked-as (marked-one room) (sym (rw (freeOf-cons l c [], freeOf-nil l, ← e, h))) refl
 
-  pub edge-unflagged : (c : ℕ) {b : Bool} → b ≡ getD fs c false → not b ≡ true → false ≡ anyFlag fs (freeOf l (c ∷ []))
-  edge-unflagged c {b} e h = rw (free-flag c, ← e, not-true b h)
+  -- those of the edges of a node
+  pub node-marked : (q : ℕ) {m n : ℕ} {cs : List ℕ} {ys : List Float} {xs zs : List Bool} → Holds m (divergenceOf l q) cs ys n
+      → Marked true (freeOf l (take n cs)) xs zs → Marked true (freeColumns l q) xs zs
+  node-marked q g p = marked-as p (sym (rw (freeColumns-is l q, ← columns-held g))) refl
 
-  pub edge-flag : (c : ℕ) {b fixed : Bool} → b ≡ getD fs c false → not b ≡ false → fixed ≡ isFixed l c → not fixed ≡ anyFlag fs (freeOf l (c ∷ []))
-  edge-flag c {b} {fixed} e h p = rw (free-flag c, ← e, not-false b h, p)
-
-  module _ (r : ℕ) where
-    reads-is : stencilReads l r ≡ cond (isFixed l r) [] (r ∷ each (freeColumns l) (columnsOf (gradientOf l r)))
+  module _ (r : ℕ) {b : Bool} (e : b ≡ isFixed l r) where
+    reads-is : stencilReads l r ≡ cond b [] (r ∷ each (freeColumns l) (columnsOf (gradientOf l r)))
     unfolding stencilReads
-    reads-is = row-reads l r
+    reads-is = rw e (row-reads l r)
 
-    -- none where the edge is fixed; its own; those of the nodes of its gradient
-    pub reads-none : {b : Bool} → b ≡ isFixed l r → b ≡ true → false ≡ anyFlag fs (stencilReads l r)
-    reads-none e h = rw (reads-is, ← e, h) (sym (anyFlag-nil fs))
+    -- none where the edge is fixed
+    pub reads-none : {xs : List Bool} → b ≡ true → Marked true (stencilReads l r) xs xs
+    reads-none h = marked-as marked-nil (sym (rw (reads-is, h))) refl
 
-    module _ {b : Bool} (e : b ≡ isFixed l r) (h : b ≡ false) where
-      reads-free : anyFlag fs (stencilReads l r) ≡ (getD fs r false || anyFlag fs (each (freeColumns l) (columnsOf (gradientOf l r))))
-      reads-free = rw (reads-is, ← e, h) (anyFlag-cons fs r (each (freeColumns l) (columnsOf (gradientOf l r))))
-
-      pub reads-own : {v : Bool} → v ≡ getD fs r false → v ≡ true → true ≡ anyFlag fs (stencilReads l r)
-      reads-own p q = rw (reads-free, ← p, q)
-
-      pub reads-nodes : {v w : Bool} {m n : ℕ} {cs : List ℕ} {xs : List Float} → v ≡ getD fs r false → v ≡ false → Holds m (gradientOf l r) cs xs n
-          → w ≡ anyFlag fs (each (freeColumns l) (take n cs)) → w ≡ anyFlag fs (stencilReads l r)
-      reads-nodes p q g w = rw (reads-free, ← p, q, ← columns-held g) w
-
-  -- the edges of a node
-  pub node-flag : (q : ℕ) {b : Bool} {m n : ℕ} {cs : List ℕ} {xs : List Float} → Holds m (divergenceOf l q) cs xs n
-      → b ≡ anyFlag fs (freeOf l (take n cs)) → b ≡ anyFlag fs (freeColumns l q)
-  node-flag q g e = rw (freeColumns-is l q, ← columns-held g) e
+    -- its own, and those of the nodes of its gradient
+    pub reads-nodes : {m n : ℕ} {cs : List ℕ} {ys : List Float} {xs zs : List Bool} → b ≡ false → r < length xs → Holds m (gradientOf l r) cs ys n
+        → Marked true (each (freeColumns l) (take n cs)) (set xs r true) zs → Marked true (stencilReads l r) xs zs
+    reads-nodes h room g p = marked-as (marked-append (marked-one room) p) (sym (rw (reads-is, h, ← columns-held g))) refl

@@ -1,4 +1,4 @@
--- The columns of a lattice's own row are those of the stencil's relations.
+-- The columns of a lattice's own row are those of the stencil's relations; and those whose permittivities it reads.
 -- Assumes nothing.
 use Prim.Native.Nat.{ℕ, _<_}
 use mathlib.Core.Path.{_≡_, refl, sym, _∙_, ap}
@@ -23,8 +23,9 @@ use Rattle.operators.specs.Relation.{Spot, Times, Within, Then}
 use Rattle.operators.specs.Pattern.{SpotEdge, spotEdge, across, roleOf}
 use Rattle.operators.specs.Base.{liveAt}
 use Rattle.operators.specs.Relations0.{ahead, pick, grad, cells, gradCube, divCube, Free, ByFace, Stencil}
+use Rattle.operators.specs.Stencil.{stencilReads}
 use Rattle.operators.specs.Levels.{isBloch, spotOf}
-use Rattle.lattice.proofs.ColumnLaws.{fixed-at, curl-e-at, curl-h-at, gradient-at, offAxis, free-off, off-free, free-walls, walls-free, faceColumns, faceColumns-is, row-columns}
+use Rattle.lattice.proofs.ColumnLaws.{fixed-at, curl-e-at, curl-h-at, gradient-at, offAxis, free-off, off-free, free-walls, walls-free, faceColumns, faceColumns-is, row-columns, row-reads}
 use Rattle.operators.proofs.RelationLaws.{and-both, both-and}
 use Rattle.operators.proofs.NeighbourSpots.{live-across, live-role, low3}
 use Rattle.operators.proofs.ListedPlaces.{Listed, Lists, lists-contain, lists-same, listed-append, Through, listed-each, listed-free}
@@ -229,6 +230,36 @@ module _ (l : FullLattice) (limits : Limits (l .grid)) where
           lists-same (λ q. (q ≡ p) ⊎ (ViaFace l p q ⊎ ViaNode l p q)) (Touched l p) (λ q b. free-touched p q a b h)
           (listed-append (λ q. q ≡ p) (λ q. ViaFace l p q ⊎ ViaNode l p q) (r p a ∷ []) edges (own-listed p a)
           (listed-append (ViaFace l p) (ViaNode l p) (each (faceColumns l) (columnsOf (curlH l (r p a)))) (each (freeColumns l) (columnsOf (gradientOf l (r p a)))) (faces-listed p a) (nodes-listed p a)))
+
+-- q is an edge whose permittivity the row of p reads: neither is fixed, and they are one edge or lead to one another by way of a node
+pub record Reads (l : FullLattice) (p q : Position) : Type 0 where
+  pub row : fixedAt l p ≡ false
+  pub column : fixedAt l q ≡ false
+  pub path : (q ≡ p) ⊎ Then (cells (nOf (l .grid)) (isBloch l)) (Times (gradCube (nOf (l .grid)) (isBloch l) (p .component)))
+      (Times (divCube (nOf (l .grid)) (isBloch l) (q .component))) (spotOf p) (spotOf q)
+
+pub reads-listed : (l : FullLattice) → Limits (l .grid) → (p : Position) → Inside (l .grid) p → Listed l (Reads l p) (stencilReads l (indexOf (l .grid) p))
+unfolding stencilReads
+reads-listed l limits p a = rw (row-reads l own, fixed-at l limits a) (go (fixedAt l p) refl)
+  where
+    own : ℕ
+    own = indexOf (l .grid) p
+
+    edges : List ℕ
+    edges = each (freeColumns l) (columnsOf (gradientOf l own))
+
+    same : fixedAt l p ≡ false → (q : Position) → Inside (l .grid) q → ((q ≡ p) ⊎ ViaNode l p q) ↔ Reads l p q
+    same h q b = (
+      ⊎-elim (λ e. record { row = h; column = rw e h; path = inl e })
+          (λ t. record { row = h; column = t .second .1; path = inr (via-node l limits p q a b t) }),
+      (λ t. ⊎-elim (λ e. inl e) (λ u. inr (node-via l limits p q a b (t .column) u)) (t .path)),
+    )
+
+    go : (b : Bool) → fixedAt l p ≡ b → Listed l (Reads l p) (cond b [] (own ∷ edges))
+    go true h = record { there = λ c i. absurd i; back = λ q b t. absurd (false≢true (sym (t .row) ∙ h)) }
+    go false h =
+        lists-same (λ q. (q ≡ p) ⊎ ViaNode l p q) (Reads l p) (same h)
+        (listed-append (λ q. q ≡ p) (ViaNode l p) (own ∷ []) edges (own-listed l limits p a) (nodes-listed l limits p a))
 
 -- the theorem
 pub row-in : (l : FullLattice) (p q : Position) (f : ℕ → C64) → Limits (l .grid) → Inside (l .grid) p → Inside (l .grid) q

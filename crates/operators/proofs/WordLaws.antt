@@ -81,6 +81,10 @@ pub mix-right : (t s : ℕ) → s ≡ mixOf false t true s
 unfolding mixOf
 mix-right t s = sym (or-zero-l s)
 
+pub mix-none : (t s : ℕ) → mixOf false t false s ≡ 0
+unfolding mixOf
+mix-none t s = or-zero-l 0
+
 -- the machine's shift
 pub single-shifted : (k : ℕ) → k < 64 → 1 * 2 ^ k % 2 ^ 64 ≡ single k
 single-shifted k h =

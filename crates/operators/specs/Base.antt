@@ -34,6 +34,18 @@ baseOf n bloch down i j = liveAt bloch across i && (eqb i j || follows n bloch j
 unfoldable pub baseWord : ℕ → Bool → ℕ → ℕ → ℕ
 baseWord n bloch w i = gathered n (baseOf n bloch (nameNo w) i) single
 
+-- j is a place below n that relation number w has at i
+unfoldable pub placeOf : ℕ → Bool → ℕ → ℕ → ℕ → Bool
+placeOf n bloch w i j = ltb j n && baseOf n bloch (nameNo w) i j
+
+-- no place but r comes next after i
+pub record OnlyAfter (n i r : ℕ) : Type 0 where
+  pub only : (bloch : Bool) (j : ℕ) → follows n bloch i j ≡ true → j ≡ r
+
+-- i comes next after no place but r
+pub record OnlyBefore (n i r : ℕ) : Type 0 where
+  pub only : (bloch : Bool) (j : ℕ) → follows n bloch j i ≡ true → j ≡ r
+
 -- the words of relation number q of the three axes, one for each of its axis's cells
 unfoldable pub baseWords : List ℕ → List Bool → ℕ → List ℕ
 baseWords n bloch q = tabulate (baseWord (getD n (q / 6) 0) (getD bloch (q / 6) false) (q % 6)) (getD n (q / 6) 0) 0

@@ -1,7 +1,8 @@
 -- A set of at most 64 places as the bits of a word (docs/SPECIFICATION.md, 9).
 -- Assumes nothing.
-use Prim.Native.Nat.{ℕ, zero, suc, _/_, _%_, _^_}
-use mathlib.Core.Bool.{Bool, true, cond}
+use Prim.Native.Nat.{ℕ, zero, suc, _/_, _%_, _^_, _<_, _≤_}
+use mathlib.Core.Path.{_≡_}
+use mathlib.Core.Bool.{Bool, true, false, cond}
 use mathlib.Core.List.{List}
 use lib.Dec.{eqb}
 use lib.Bits.{bitOr}
@@ -27,3 +28,10 @@ gathered (suc n) p w = mixOf true (gathered n p w) (p n) (w n)
 -- the set of some places
 unfoldable pub setOf : List ℕ → ℕ
 setOf ms = gathered (length ms) (λ k. true) (λ k. single (getD ms k 0))
+
+-- r is the first place at or behind i of the set w, 64 if it has none there
+pub record NextPlace (w i r : ℕ) : Type 0 where
+  pub from : i ≤ r
+  pub last : r ≤ 64
+  pub none : (k : ℕ) → i ≤ k → k < r → bitAt w k ≡ false
+  pub here : r < 64 → bitAt w r ≡ true

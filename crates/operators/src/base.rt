@@ -1,11 +1,13 @@
 // Level 0's relations of an axis, as words.
 
 ghost use mathlib.Core.Path.{_≡_};
+ghost use mathlib.Core.Bool.{true};
 ghost use Prim.Native.Nat.{_+_, _<_, _≤_};
 ghost use lib.ListN.{length};
 ghost use Rattle.numbers.specs.Lists.{tabulate, laid};
 ghost use Rattle.operators.specs.Numbered.{nameNo, roleNo, relationsLaid};
-ghost use Rattle.operators.specs.Base.{liveAt, follows, baseOf, baseWord, baseWords, Sizes};
+ghost use Rattle.operators.specs.Base.{liveAt, follows, baseOf, placeOf, baseWord, baseWords, OnlyAfter, OnlyBefore, Sizes};
+ghost use Rattle.operators.specs.Bits.{mixOf, single};
 use crate::words;
 
 // Is the place not held fixed? Role 0 is along, 1 across.
@@ -48,16 +50,49 @@ fn related(n: usize, bloch: bool, w: usize, i: usize, j: usize) -> bool
     live(bloch, 1, i) && (here || down)
 }
 
-// The places that relation number w has at i.
+// The only place that can come next after i.
+fn place_after(n: usize, i: usize) -> usize
+    requires { ⌜ i < 64 ⌝ }
+    ensures { λ r. ⌜ OnlyAfter n i r ⌝ }
+{
+    if i + 1 < n {
+        return i + 1;
+    }
+    0
+}
+
+// The only place that i can come next after.
+fn place_before(n: usize, i: usize) -> usize
+    ensures { λ r. ⌜ OnlyBefore n i r ⌝ }
+{
+    if i > 0 {
+        return i - 1;
+    }
+    if n > 0 {
+        return n - 1;
+    }
+    0
+}
+
+// The set, with j if it is a place that relation number w has at i.
+fn with_place(n: usize, bloch: bool, w: usize, i: usize, set: u64, j: usize) -> u64
+    requires { ⌜ (n ≤ 64) × (w < 6) × (i < 64) ⌝ }
+    ensures { λ r. ⌜ r ≡ mixOf true set (placeOf n bloch w i j) (single j) ⌝ }
+{
+    if j >= n {
+        return set;
+    }
+    words::mix(true, set, related(n, bloch, w, i, j), words::unit(j))
+}
+
+// The places that relation number w has at i: none but i and the places beside it.
 pub fn base_word(n: usize, bloch: bool, w: usize, i: usize) -> u64
     requires { ⌜ (n ≤ 64) × (w < 6) × (i < 64) ⌝ }
     ensures { λ r. ⌜ r ≡ baseWord n bloch w i ⌝ }
 {
-    let mut set = 0;
-    for j in 0..n {
-        set = words::mix(true, set, related(n, bloch, w, i, j), words::unit(j));
-    }
-    set
+    let here = with_place(n, bloch, w, i, 0, i);
+    let up = with_place(n, bloch, w, i, here, place_after(n, i));
+    with_place(n, bloch, w, i, up, place_before(n, i))
 }
 
 // The n words of relation number w, from at on.

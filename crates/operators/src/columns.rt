@@ -38,11 +38,10 @@ pub fn write_line(w: u64, n: usize, base: usize, out: &mut [usize], at: usize) -
     ensures { λ r. ⌜ Listed (now (out .entry)) at (line w base n 0) (now (out .exit)) r ⌝ }
 {
     let mut next = at;
-    if w == 0 {
-        return next;
-    }
-    for i in 0..n {
-        next = put(words::bit(w, i), out, next, base + i);
+    let mut i = words::next_place(w, 0);
+    while i < n {
+        next = put(true, out, next, base + i);
+        i = words::next_place(w, i + 1);
     }
     next
 }
@@ -62,17 +61,13 @@ pub fn write_plane(
     requires { ⌜ (nx ≤ 64) × (ny ≤ 64) × (base ≤ 500000000) × (at ≤ 2 ^ 42) ⌝ }
     ensures { λ r. ⌜ Listed (now (out .entry)) at (plane s t a b nx base ny 0) (now (out .exit)) r ⌝ }
 {
-    if a == 0 {
-        if b == 0 {
-            return at;
-        }
-    }
+    let both = words::mix(true, a, true, b);
     let mut next = at;
-    let mut start = base;
-    for j in 0..ny {
+    let mut j = words::next_place(both, 0);
+    while j < ny {
         let w = words::mix(words::bit(a, j), t, words::bit(b, j), s);
-        next = write_line(w, nx, start, out, next);
-        start += nx;
+        next = write_line(w, nx, base + nx * j, out, next);
+        j = words::next_place(both, j + 1);
     }
     next
 }
@@ -91,14 +86,15 @@ pub fn write_block(
     ensures { λ r. ⌜ Listed (now (out .entry)) at (block p nx ny base nz 0) (now (out .exit)) r ⌝ }
 {
     let area = nx * ny;
+    let both = words::mix(true, p.sz, true, p.tz);
     let mut next = at;
-    let mut start = base;
-    for k in 0..nz {
+    let mut k = words::next_place(both, 0);
+    while k < nz {
         let same = words::bit(p.sz, k);
         let a = words::mix(same, p.sy, false, 0);
         let b = words::mix(same, p.ty, words::bit(p.tz, k), p.sy);
-        next = write_plane(p.sx, p.tx, a, b, nx, ny, start, out, next);
-        start += area;
+        next = write_plane(p.sx, p.tx, a, b, nx, ny, base + area * k, out, next);
+        k = words::next_place(both, k + 1);
     }
     next
 }

@@ -15,7 +15,6 @@ use Rattle.numbers.proofs.SumLaws.{sumTo-zero, sumTo-suc}
 use Rattle.lattice.specs.Grid.{Limits, unknownsOf}
 use Rattle.lattice.specs.Lattice.{FullLattice}
 use Rattle.weights.specs.CoarseEps.{epsReads}
-use Rattle.weights.specs.Prolongation.{weightReads}
 use Rattle.weights.specs.TwoLevels.{twoAt}
 use Rattle.operators.specs.Averaged.{averagedReads}
 use Rattle.operators.specs.LevelLists.{edgesOn}
@@ -37,7 +36,7 @@ use Rattle.store.specs.declared.change.Hits.{Hits}
 use Rattle.store.specs.declared.change.LevelParts.{LevelParts}
 use Rattle.store.proofs.EndLaws.{edges-next}
 use Rattle.numbers.proofs.PartLaws.{part-room}
-use Rattle.store.proofs.PatternLaws.{leads, galerkin-hit}
+use Rattle.store.proofs.PatternLaws.{leads, galerkin-hit, forward-hit}
 use Rattle.store.proofs.RaisedLaws.{only-most, raise-set, raised-as, flags-raised, same?}
 use Rattle.store.proofs.RangeLaws.{ranges}
 use Rattle.store.proofs.RankLaws.{first-most}
@@ -157,16 +156,16 @@ module _ (l : FullLattice) (limits : Limits (l .grid)) (L : ℕ) {a : LevelParts
   pub turned-there : {k : ℕ} → k ≡ edgesOn l (L + 1) → RowsThere k (a .turned) ts us
   turned-there e = rows-next l L e (w .turned-held)
 
-  pub forward-few : {n : ℕ} {flags ys : List Bool} {reads : ℕ → List ℕ} → n ≡ edgesOn l L → Raised (edgesOn l L) flags reads none ys → n ≤ length ys
-  forward-few e u = omega (arith, level-room l limits L, u .same-long)
+  pub forward-few : {n : ℕ} → n ≡ edgesOn l L → n ≤ length none
+  forward-few e = omega (arith, level-room l limits L)
 
   pub turned-few : {k : ℕ} → k ≡ edgesOn l (L + 1) → k ≤ length none
   turned-few e = omega (arith, level-room l limits (suc L), edges-next l L e)
 
-  module _ (h : Hits) {n k : ℕ} (en : n ≡ edgesOn l L) (ek : k ≡ edgesOn l (L + 1)) {next part forward turned : List Bool}
-      (coarse : Raised (edgesOn l (suc L)) (h .eps) (epsReads (twoAt l L)) none next) (weights : Raised (edgesOn l L) (h .eps) (weightReads (twoAt l L)) none part)
-      (columns : RaisedBy n (a .forward) ss cs next part forward) (rows : RaisedBy k (a .turned) ts us forward none turned) where
-    named : Raised (edgesOn l L) next (forwardCols l L) part forward
+  module _ (h : Hits) {n k : ℕ} (en : n ≡ edgesOn l L) (ek : k ≡ edgesOn l (L + 1)) {next forward turned : List Bool}
+      (coarse : Raised (edgesOn l (suc L)) (h .eps) (epsReads (twoAt l L)) none next) (columns : RaisedBy n (a .forward) ss cs next none forward)
+      (rows : RaisedBy k (a .turned) ts us forward none turned) where
+    named : Raised (edgesOn l L) next (forwardCols l L) none forward
     named = raised-by en (w .forward-held) columns
 
     turning : Raised (edgesOn l (suc L)) forward (turnedCols l L) none turned
@@ -179,16 +178,12 @@ module _ (l : FullLattice) (limits : Limits (l .grid)) (L : ℕ) {a : LevelParts
           flags-raised (edgesOn l L) (epsHit l e L) (edgesOn l (suc L)) (λ r. false) f (none-flags (edgesOn l (suc L)) (edges-few l limits (suc L))) coarse
           (λ r c b i. ranges l limits .eps-low L r c b i)
 
-      weight-hits : Flags (edgesOn l L) (λ r. any (epsHit l e L) (weightReads (twoAt l L) r)) part
-      weight-hits =
-          flags-raised (edgesOn l L) (epsHit l e L) (edgesOn l L) (λ r. false) f (none-flags (edgesOn l L) (edges-few l limits L)) weights
-          (λ r c b i. ranges l limits .weight-low L r c b i)
-
       forward-hits : Flags (edgesOn l L) (forwardHit l e L) forward
-      unfolding forwardHit
       forward-hits =
-          flags-raised (edgesOn l (suc L)) (epsHit l e (suc L)) (edgesOn l L) (λ r. any (epsHit l e L) (weightReads (twoAt l L) r)) coarse-hits weight-hits named
-          (λ r c b i. ranges l limits .forward-low L r c b i)
+          let u : Flags (edgesOn l L) (λ r. any (epsHit l e (suc L)) (forwardCols l L r)) forward =
+          flags-raised (edgesOn l (suc L)) (epsHit l e (suc L)) (edgesOn l L) (λ r. false) coarse-hits (none-flags (edgesOn l L) (edges-few l limits L)) named
+          (λ r c b i. ranges l limits .forward-low L r c b i) in
+          record { long = u .long; each-is = λ r b. u .each-is r b ∙ sym (forward-hit l limits e L r b) }
 
       turned-hits : Flags (edgesOn l (suc L)) (turnedHit l e L) turned
       unfolding turnedHit
@@ -202,7 +197,7 @@ module _ (l : FullLattice) (limits : Limits (l .grid)) (L : ℕ) {a : LevelParts
           long = record {
             eps-long = coarse .same-long ∙ none-long;
             averaged-long = long .averaged-long;
-            forward-long = named .same-long ∙ weights .same-long ∙ none-long;
+            forward-long = named .same-long ∙ none-long;
             turned-long = turning .same-long ∙ none-long;
             operator-long = long .operator-long;
           };

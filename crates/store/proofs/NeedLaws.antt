@@ -1,4 +1,4 @@
--- The needs of the lists, as the code counts them, and the levels that refusal 8 looks at.
+-- The needs of the lists, as the code counts them; refusal 8, which never occurs; and the first level that fails a test.
 -- Assumes nothing.
 use Prim.Native.Nat.{ℕ, zero, suc, _+_, _-_, _*_, _/_, _%_, _≤_, _<_}
 use mathlib.Core.Path.{_≡_, refl, sym, ap, _∙_}
@@ -9,7 +9,7 @@ use native.Mathlib.Decide.{ℕ-discrete}
 use lib.Dec.{eqb, ltb}
 use lib.ListN.{length, getD, length-replicate}
 use borrow.Author.Tests.{eq-eqb, ne-eqb, lt-ltb, le-ltb}
-use Rattle.numbers.specs.Lists.{startOf, sumTo, someRepeats}
+use Rattle.numbers.specs.Lists.{startOf, sumTo}
 use Rattle.numbers.proofs.SumLaws.{sumTo-zero, sumTo-suc, sum-agree, sum-most, Summing, summing-start, summing-turn, summing-end, summing-most}
 use Rattle.numbers.proofs.PartLaws.{sum-first}
 use Rattle.lattice.specs.declared.grid.Grid3d.{Grid3d}
@@ -23,6 +23,7 @@ use Rattle.lattice.proofs.Equations.{packed-is}
 use Rattle.lattice.proofs.LevelLaws.{line-over}
 use Rattle.weights.specs.Prolongation.{weightColumns}
 use Rattle.weights.specs.TwoLevels.{TwoLevels, twoAt, twoOf, fineGrid}
+use Rattle.weights.proofs.NoRepeats.{names-no-edge-twice}
 use Rattle.operators.specs.LevelLists.{edgesOn}
 use Rattle.operators.specs.Levels.{gridAt, patternRow, baseRelations, relationsBelow}
 use Rattle.operators.specs.Numbered.{relationsLaid, noRelations, wordCount}
@@ -71,13 +72,6 @@ module _ (l : FullLattice) (limits : Limits (l .grid)) (m : ℕ) {lines : List L
   count-is e =
       e ∙ ap (λ (t : TwoLevels). startOf (weightColumns t) (unknownsOf (fineGrid t))) (lines-two l limits m has low p q)
       ∙ ap (startOf (weightColumns (twoAt l L))) (fine-edges l L)
-
-  pub repeats-is : {b : Bool} → b ≡ someRepeats (weightColumns (twoOf l fine coarse)) (unknownsOf (fineGrid (twoOf l fine coarse))) → not b ≡ namesOnce l L
-  unfolding forwardCols
-  repeats-is e =
-      ap not
-      (e ∙ ap (λ (t : TwoLevels). someRepeats (weightColumns t) (unknownsOf (fineGrid t))) (lines-two l limits m has low p q)
-      ∙ ap (someRepeats (weightColumns (twoAt l L))) (fine-edges l L))
 
 -- ---- relations, and the terms they count
 
@@ -233,7 +227,19 @@ pub only-few : (ch : Choice) {k : ℕ} (n : ℕ) → k ≡ onlyCount ch n → k 
 only-few Galerkin n e = omega arith
 only-few Rediscretized n e = omega arith
 
--- ---- refusal 8: the first level that fails a test
+-- ---- refusal 8: no row of a transfer names an edge twice, so it never occurs
+
+module _ (l : FullLattice) (limits : Limits (l .grid)) where
+  names-once : (L : ℕ) → namesOnce l L ≡ true
+  unfolding forwardCols
+  names-once L = ap not (names-no-edge-twice l L limits (edgesOn l L) (omega (arith, fine-edges l L)))
+
+  pub never-twice : (m : ℕ) → allTo 8 (namesOnce l) m ≡ accepted 0
+  unfolding allTo
+  never-twice zero = refl
+  never-twice (suc m) = λ i. andThen (never-twice m i) (cond (names-once m i) (accepted 0) (refused 8 m))
+
+-- ---- the first level that fails a test
 
 -- none of the first L levels does
 pub record NoneBad (number : ℕ) (ok : ℕ → Bool) (m L : ℕ) : Type 0 where
@@ -241,14 +247,6 @@ pub record NoneBad (number : ℕ) (ok : ℕ → Bool) (m L : ℕ) : Type 0 where
   pub fine : allTo number ok L ≡ accepted 0
 
 module _ (number : ℕ) (ok : ℕ → Bool) (m : ℕ) where
-  pub none-start : NoneBad number ok m 0
-  unfolding allTo
-  none-start = record { high = omega arith; fine = refl }
-
-  pub none-turn : {L : ℕ} → NoneBad number ok m L → L < m → ok L ≡ true → NoneBad number ok m (L + 1)
-  unfolding allTo
-  none-turn {L} u h e = let z : L + 1 ≡ suc L = omega arith in rw z (record { high = h; fine = rw (u .fine, e) refl })
-
   pub none-end : {L : ℕ} → NoneBad number ok m L → m ≤ L → FirstBad number ok m m
   none-end {L} u h =
       let z : L ≡ m = omega (arith, u .high) in

@@ -15,13 +15,14 @@ use Rattle.lattice.specs.declared.levels.Depth.{Depth}
 use Rattle.lattice.specs.declared.levels.Lines.{Lines}
 use Rattle.store.proofs.LineLaws.{lines-to}
 use Rattle.lattice.specs.Check.{Verdict, accepted, refused, andThen, isSound, checkStretches}
+use Rattle.lattice.specs.Grid.{Limits}
 use Rattle.lattice.specs.Lattice.{FullLattice}
 use Rattle.lattice.specs.Levels.{Joined, lineAt, cellsAt, lineNo, linesTo, noLine, depthOf, depthVerdict, countOf}
 use Rattle.lattice.specs.Line.{packed}
 use Rattle.lattice.proofs.Equations.{linesTo-is, lineNo-is, noLine-is, packed-is, cellsAt-is}
 use Rattle.store.specs.Setup.{Input, fullOf, transfersOf, allTo, namesOnce}
 use Rattle.store.specs.Phases.{blankLine}
-use Rattle.store.specs.FillSteps.{needsOf, FirstBad}
+use Rattle.store.specs.FillSteps.{needsOf}
 use Rattle.store.specs.Handed.{CellsOf}
 use Rattle.store.specs.Needed.{noNeeds, noCells, cellsOn, cellsOf, lineCells, NeededOf, neededVerdict, levelsVerdict}
 use Rattle.store.specs.Steps.{answerOf}
@@ -30,7 +31,7 @@ use Rattle.store.specs.declared.handed.Cells.{Cells}
 use Rattle.store.specs.declared.needs.Needs.{Needs}
 use Rattle.store.specs.declared.needed.Needed.{Needed}
 use Rattle.store.specs.declared.setup.Answer.{Answer}
-use Rattle.store.proofs.SettleLaws.{twice-is, none-twice}
+use Rattle.store.proofs.SettleLaws.{none-twice}
 
 -- ---- the cells of the lines that the level loop found
 
@@ -75,24 +76,17 @@ module _ (l : FullLattice) (ch : Choice) (m : ℕ) where
       → NeededOf l ch m v (record { answer = a; needs = n; cells = c })
   needed-none e f p q = record { answer-is = e; needs-are = rw f p; cells-are = rw f q }
 
-  module _ {t : ℕ} (first : FirstBad 8 (namesOnce l) m t) where
-    abbrev both : Verdict
-    both = andThen (allTo 8 (namesOnce l) m) (accepted (suc m))
-
-    pub needed-twice : {n : Needs} {c : Cells} → t < m → n ≡ noNeeds → c ≡ noCells → NeededOf l ch m both (record { answer = Answer.Twice t; needs = n; cells = c })
-    needed-twice h p q = let e = twice-is first (accepted (suc m)) h in needed-none e (ap isSound (sym e)) p q
-
-    pub needed-all : {lines : List Line} {n : Needs} {vs : List ℕ} → m ≤ t → lines ≡ linesTo l (suc m) → n ≡ needsOf l ch m → vs ≡ tabulate (lineCells lines) 36 0
-        → NeededOf l ch m both (record { answer = Answer.Levels (m + 1); needs = n; cells = record { levels = m + 1; cells = vs } })
-    needed-all h s p q =
-        let e = none-twice first (accepted (suc m)) h in
-        let z : m + 1 ≡ suc m = omega arith in
-        let f : isSound both ≡ true = ap isSound (sym e) in
-        record {
-          answer-is = ap accepted z ∙ e;
-          needs-are = rw f p;
-          cells-are = rw f (λ i. record { levels = z i; cells = (q ∙ cells-found l m s) i });
-        }
+  pub needed-all : Limits (l .grid) → {lines : List Line} {n : Needs} {vs : List ℕ} → lines ≡ linesTo l (suc m) → n ≡ needsOf l ch m → vs ≡ tabulate (lineCells lines) 36 0
+      → NeededOf l ch m (andThen (allTo 8 (namesOnce l) m) (accepted (suc m))) (record { answer = Answer.Levels (m + 1); needs = n; cells = record { levels = m + 1; cells = vs } })
+  needed-all limits s p q =
+      let e = none-twice l limits m (accepted (suc m)) in
+      let z : m + 1 ≡ suc m = omega arith in
+      let f : isSound (andThen (allTo 8 (namesOnce l) m) (accepted (suc m))) ≡ true = ap isSound (sym e) in
+      record {
+        answer-is = ap accepted z ∙ e;
+        needs-are = rw f p;
+        cells-are = rw f (λ i. record { levels = z i; cells = (q ∙ cells-found l m s) i });
+      }
 
 module _ (l : FullLattice) (ch : Choice) {d : Verdict} where
   pub behind-levels : {n : ℕ} {depth : Depth} {r : Needed} → depthVerdict depth ≡ d → depth ≡ Depth.Levels n

@@ -1,16 +1,19 @@
 -- The passes over a level that raise flags: what the code's tables give is what the rows of the level read. Assumes nothing.
 use Prim.Native.Nat.{ℕ, suc, _+_, _-_, _≤_, _<_, _^_}
 use mathlib.Core.Path.{_≡_, refl, sym, ap, subst, _∙_}
-use mathlib.Core.Bool.{Bool, false, _||_}
+use mathlib.Core.Bool.{Bool, true, false, _||_}
 use mathlib.Core.List.{List}
 use native.Mathlib.Omega.{arith}
 use lib.ListN.{length, getD, set, length-set}
 use lib.Seq.{ext-getD}
 use Rattle.numbers.specs.declared.terms.Part.{Part}
-use Rattle.numbers.specs.Lists.{tabulate, startOf, anyFlag, entryAt, placesIn, Laid}
+use Rattle.numbers.specs.Lists.{tabulate, startOf, anyFlag, Marked, entryAt, placesIn, Laid}
+use Rattle.numbers.specs.Terms.{Term, columnsOf, Below}
+use Rattle.numbers.proofs.CollectSums.{in-at}
+use Rattle.numbers.proofs.MarkedLaws.{Mutual, marked-as}
 use Rattle.numbers.proofs.EachLaws.{length-columns}
 use Rattle.numbers.proofs.ListLaws.{laid-same, places-laid}
-use Rattle.numbers.proofs.TabulateLaws.{length-tabulate, tabulate-at}
+use Rattle.numbers.proofs.TabulateLaws.{length-tabulate, tabulate-at, tabulate-at-0}
 use Rattle.numbers.proofs.LoopLaws.{start-suc}
 use Rattle.lattice.specs.declared.grid.Grid3d.{Grid3d}
 use Rattle.lattice.specs.declared.levels.Three.{Three}
@@ -22,27 +25,24 @@ use Rattle.lattice.specs.Neighbours.{fixedAt}
 use Rattle.lattice.proofs.GridLaws.{at-inside}
 use Rattle.lattice.specs.Lattice.{FullLattice}
 use Rattle.weights.specs.CoarseEps.{epsReads}
-use Rattle.weights.specs.Prolongation.{weightReads}
-use Rattle.weights.specs.Tables.{NestedIn, PlacesOf, epsReadsIn, readsRow, nodeNo, nodeEntry, nodeFrom, valueEntry, linesIn, countFrom, placeFrom, HeldThree}
+use Rattle.weights.specs.Tables.{NestedIn, epsReadsIn, nodeNo, linesIn, HeldThree}
 use Rattle.weights.specs.TwoLevels.{TwoLevels, twoAt, twoOf, gridWith, fineGrid, coarseGrid}
 use Rattle.weights.proofs.EpsLaws.{nodes-nested}
 use Rattle.weights.proofs.EpsReads.{reads-same}
-use Rattle.weights.proofs.MeaningLaws.{Slotted, slotted, slots-in, nodes-in}
 use Rattle.weights.proofs.PairLaws.{paired-at}
-use Rattle.weights.proofs.RowReads.{reads-row, nodes-placed}
-use Rattle.weights.proofs.SlotLaws.{Worked, nodes-are}
 use Rattle.operators.specs.LevelLists.{edgesOn}
 use Rattle.operators.specs.Averaged.{PairedLines, averagedReads}
 use Rattle.operators.specs.Columns.{Listed}
 use Rattle.operators.specs.Levels.{gridAt, latticeAt, patternRow}
 use Rattle.operators.specs.Numbered.{wordCount, rowColumns}
 use Rattle.operators.specs.Rediscretized.{rediscretizedLattice, Tame}
-use Rattle.operators.specs.Stencil.{stencilReads}
+use Rattle.operators.specs.Stencil.{stencilRow, stencilReads}
 use Rattle.operators.proofs.Equations.{galerkinAt-zero}
 use Rattle.operators.proofs.ForwardPattern.{grid-fine, grid-coarse, grid-limits}
 use Rattle.operators.proofs.GalerkinPattern.{grid-first}
 use Rattle.operators.proofs.LevelListLaws.{lattice-limits}
 use Rattle.operators.proofs.LevelTableLaws.{row-laid}
+use Rattle.operators.proofs.MutualRows.{stencil-mutual}
 use Rattle.operators.proofs.RangeLaws.{level-edges}
 use Rattle.operators.proofs.RediscretizedLaws.{tame-at}
 use Rattle.operators.proofs.RediscretizedLists.{lines-nested}
@@ -102,6 +102,15 @@ module _ {n : ℕ} {o : Part} {ss cs : List ℕ} {flags xs : List Bool} where
 
 -- ---- a row of level 0's operator, from the relations
 
+-- these rows name one another
+pub first-mutual : (l : FullLattice) → Limits (l .grid) → Mutual (unknownsOf (l .grid)) (operatorCols l Galerkin 0)
+first-mutual l limits =
+    let all : _≡_ {A = ℕ → List ℕ} (λ r. columnsOf (stencilRow l blank r)) (operatorCols l Galerkin 0) = λ i r. is r i in
+    subst (Mutual (unknownsOf (l .grid))) all (stencil-mutual l limits blank)
+  where
+    is : (r : ℕ) → columnsOf (stencilRow l blank r) ≡ operatorCols l Galerkin 0 r
+    is r = ap (λ (row : ℕ → List Term). columnsOf (row r)) (sym (galerkinAt-zero l blank)) ∙ operator-cols-at l Galerkin blank 0 r
+
 pub first-asked : (l : FullLattice) → Limits (l .grid) → {u : List ℕ} → Relations l 0 u → {r : ℕ} → r < unknownsOf (l .grid) → {p : Position} → p ≡ atOf (l .grid) r
     → (length u ≡ wordCount) × (Limits (l .grid) × (Inside (l .grid) p × (0 ≤ 2 ^ 40)))
 first-asked l limits w {r} h e = (w .long, (limits, (rw e (at-inside limits r h), omega arith)))
@@ -120,14 +129,24 @@ module _ (l : FullLattice) (limits : Limits (l .grid)) {u : List ℕ} (w : Relat
   first-laid : Laid set xs 0 (operatorCols l Galerkin 0 r) ys n
   first-laid = subst (λ (cs : List ℕ). Laid set xs 0 cs ys n) (sym first-cols) (row-laid l (l .grid) u r e f v)
 
-  pub first-room : 0 + n ≤ length ys
-  first-room = omega (arith, first-few, first-laid .next, laid-same first-laid)
-
-  pub first-row : (flags : List Bool) {b : Bool} → b ≡ anyFlag flags (placesIn ys 0 n) → b ≡ anyFlag flags (operatorCols l Galerkin 0 r)
-  first-row flags d =
+  first-placed : placesIn ys 0 n ≡ operatorCols l Galerkin 0 r
+  first-placed =
       let cs = operatorCols l Galerkin 0 r in
       let m : n ≡ length cs = omega (arith, first-laid .next) in
-      d ∙ ap (anyFlag flags) ((λ i. placesIn (first-laid .list i) 0 (m i)) ∙ places-laid xs 0 cs (omega (arith, first-few)))
+      (λ i. placesIn (first-laid .list i) 0 (m i)) ∙ places-laid xs 0 cs (omega (arith, first-few))
+
+  -- the columns are there, each below the edges
+  pub first-room : (k : ℕ) → unknownsOf (l .grid) ≤ k → (n ≤ length ys) × Below k ys n
+  first-room k room = (omega (arith, first-few, first-laid .next, laid-same first-laid), record { low = λ m b. omega (arith, low m b) })
+    where
+      low : (m : ℕ) → m < n → getD ys m 0 < unknownsOf (l .grid)
+      low m b =
+          let cs = operatorCols l Galerkin 0 r in
+          let same : getD ys m 0 ≡ getD cs m 0 = sym (tabulate-at-0 (entryAt ys) n m 0 b) ∙ ap (λ (ds : List ℕ). getD ds m 0) first-placed in
+          rw same (first-mutual l limits .low r (getD cs m 0) h (in-at cs m (omega (arith, first-laid .next))))
+
+  pub first-marked : {b : Bool} {us vs : List Bool} → b ≡ true → Marked true (placesIn ys 0 n) us vs → Marked b (operatorCols l Galerkin 0 r) us vs
+  first-marked d p = marked-as p first-placed d
 
 -- ---- the lines, grids and tables of two neighbouring levels, as the code has them
 
@@ -142,9 +161,6 @@ module _ (l : FullLattice) (limits : Limits (l .grid)) (m : ℕ) {lines : List L
 
   pub pass-limits : (Limits gf) × (Limits gc)
   pass-limits = (rw fine-is (grid-limits l limits L), rw coarse-is (grid-limits l limits (suc L)))
-
-  pub fine-edges : unknownsOf gf ≡ edgesOn l L
-  fine-edges = ap unknownsOf fine-is
 
   pub coarse-edges : unknownsOf gc ≡ edgesOn l (suc L)
   coarse-edges = ap unknownsOf coarse-is
@@ -175,26 +191,6 @@ module _ (l : FullLattice) (limits : Limits (l .grid)) (m : ℕ) {lines : List L
         raised-as w coarse-edges
         (λ r h. (λ i. epsReadsIn (fine-at i) (coarse-at i) (nodes-at i) r)
         ∙ reads-same (twoAt l L) (subst Limits (grid-coarse l L) (grid-limits l limits (suc L))) r (subst (λ (g : Grid3d). r < unknownsOf g) coarse-at h))
-
-  -- ---- the tables of the weights
-
-  module _ {fs cs : List ℕ} (vf : fs ≡ tabulate (valueEntry (linesIn fine)) 384 0) (vc : cs ≡ tabulate (valueEntry (linesIn coarse)) 384 0) where
-    pub pass-worked : Worked l fine coarse gf gc fs cs
-    pass-worked = record { paired = lines-paired l limits m has low p q; fine-is = a; coarse-is = b; values-fine = vf; values-coarse = vc }
-
-    module _ {ns ps : List ℕ} (c : ns ≡ tabulate (countFrom l gf gc fs cs) 384 0) (s : ps ≡ tabulate (placeFrom l gf gc fs cs) 768 0) where
-      pub pass-slots : Slotted l fine coarse gf gc ps ns
-      pass-slots = slotted pass-worked c s
-
-      module _ {nn ds : List ℕ} (n : nn ≡ tabulate (nodeNo (twoOf l fine coarse)) 195 0) (d : ds ≡ tabulate (nodeFrom nn ps) 768 0) where
-        reads-at : ds ≡ tabulate (nodeEntry (twoOf l fine coarse)) 768 0
-        reads-at = nodes-are (pass-slots .paired) n (pass-slots .places) d
-
-        pub weights-placed : PlacesOf gf ds ns
-        weights-placed = nodes-placed (slots-in pass-slots) (nodes-in pass-slots reads-at)
-
-        pub weights-raised : {flags xs ys : List Bool} → Raised (unknownsOf gf) flags (readsRow gf ds ns) xs ys → Raised (edgesOn l L) flags (weightReads (twoAt l L)) xs ys
-        weights-raised w = raised-as w fine-edges (λ r h. reads-row pass-slots reads-at r h ∙ ap (λ (t : TwoLevels). weightReads t r) two)
 
 -- ---- averaged permittivities, and a rediscretized level's own lattice
 

@@ -13,6 +13,7 @@ use lib.Seq.{getD-set-same, getD-set-other, set-getD}
 use Rattle.numbers.specs.Lists.{In, anyFlag}
 use Rattle.numbers.proofs.FlagLaws.{anyFlag-nil, anyFlag-cons}
 use Rattle.numbers.proofs.Laws.{or-right, and-true, and-false}
+use Rattle.numbers.proofs.MarkedLaws.{namedBy, Spread, Mutual, named-any, named-none}
 use Rattle.operators.specs.Bits.{bitAt, mixOf, single}
 use Rattle.operators.proofs.WordLaws.{bit-mix, bit-unit}
 use Rattle.store.specs.FillSteps.{onlyCount}
@@ -77,6 +78,16 @@ raised-turn {flags} {reads} {xs} {ys} {zs} {r} {b} w h e f =
 
 pub raised-end : {n r : ℕ} {flags : List Bool} {reads : ℕ → List ℕ} {xs ys : List Bool} → Raised r flags reads xs ys → r ≡ n → Raised n flags reads xs ys
 raised-end {n} {r} {flags} {reads} {xs} {ys} w e = subst (λ (k : ℕ). Raised k flags reads xs ys) e w
+
+-- rows that name one another: where each flagged one has set the flags of its columns, those that name a flagged one are raised
+pub spread-raised : {n k : ℕ} {flags : List Bool} {reads : ℕ → List ℕ} {xs ys : List Bool} → Mutual n reads → Spread flags reads xs ys k → k ≡ n → Raised n flags reads xs ys
+spread-raised {n} {k} {flags} {reads} {xs} {ys} w p e =
+    let all : (r : ℕ) → getD ys r false ≡ (getD xs r false || namedBy flags reads n r) = λ r. p .each-is r ∙ ap (λ (j : ℕ). getD xs r false || namedBy flags reads j r) e in
+    record {
+      same-long = p .same-long;
+      each-is = λ r h. all r ∙ ap (λ (b : Bool). getD xs r false || b) (named-any flags reads n w r h);
+      rest-is = λ r h. all r ∙ or-none (getD xs r false) (namedBy flags reads n r) (named-none flags reads n w r h);
+    }
 
 -- the same rows by another name
 pub raised-as : {n k : ℕ} {flags : List Bool} {reads others : ℕ → List ℕ} {xs ys : List Bool} → Raised n flags reads xs ys → n ≡ k → ((r : ℕ) → r < n → reads r ≡ others r) → Raised k flags others xs ys

@@ -5,10 +5,10 @@ use native.Mathlib.Omega.{arith}
 use mathlib.Core.Path.{_≡_, refl, sym, ap, _∙_}
 use mathlib.Core.Bool.{Bool, true, false, false≢true, cond}
 use mathlib.Core.List.{List}
-use lib.Dec.{eqb, ltb}
+use lib.Dec.{eqb}
 use lib.ListN.{length, replicate}
 use lib.Ieee.{Float}
-use borrow.Author.Tests.{eq-eqb, ne-eqb, lt-ltb, le-ltb}
+use borrow.Author.Tests.{eq-eqb, ne-eqb}
 use Rattle.numbers.specs.declared.C64.{C64}
 use Rattle.numbers.specs.Complex.{zeroF}
 use Rattle.numbers.specs.Lists.{rows, laid, laidNumbers}
@@ -29,15 +29,16 @@ use Rattle.store.specs.Store.{Store, Sizes, sizes, lent, zeroed}
 use Rattle.store.specs.Layout.{Enough, epsOff}
 use Rattle.store.specs.Setup.{Input, fullOf, setupOf, Result, result, unless, filled, allTo, namesOnce, shortOf, levelFine, endsPart, epsPart, averagedPart, forwardStartsOf, forwardColsOf, forwardNumbers, turnedStartsOf, turnedColsOf, turnedNumbers, operatorStartsOf, operatorColsOf, operatorNumbers, scalePart, onlyNumbers}
 use Rattle.store.specs.Phases.{HasLines}
-use Rattle.store.specs.FillSteps.{numbered, FirstBad}
+use Rattle.store.specs.FillSteps.{numbered}
 use Rattle.store.specs.PhaseSteps.{ThreeZeroed}
 use Rattle.store.proofs.VerdictLaws.{enough-told}
 use Rattle.store.proofs.LineLaws.{has-lines}
+use Rattle.store.proofs.NeedLaws.{never-twice}
 use Rattle.lattice.proofs.LatticeLaws.{lattice-grid}
 use Rattle.store.specs.Steps.{answerOf, filling, codeOf, fillOf, LinesFound, mOf, structureBy, settledOf}
 use Rattle.store.specs.declared.Choice.{Choice}
 use Rattle.store.specs.declared.setup.Answer.{Answer}
-use Rattle.store.specs.declared.setup.Answer.the-variants.{Levels, TooMany, Twice, Short, NotFinite}
+use Rattle.store.specs.declared.setup.Answer.the-variants.{Levels, TooMany, Short, NotFinite}
 
 -- ---- the lines that the level loop found
 
@@ -58,12 +59,8 @@ lines-found {l} {coarsest} {r} j =
 
 -- ---- 8 and 6
 
-module _ {ok : ℕ → Bool} {m t : ℕ} (first : FirstBad 8 ok m t) (rest : Verdict) where
-  pub twice-is : t < m → refused 8 t ≡ andThen (allTo 8 ok m) rest
-  twice-is h = sym (ap (λ (v : Verdict). andThen v rest) (first .verdict ∙ ap (λ (b : Bool). cond b (refused 8 t) (accepted 0)) (lt-ltb t m h)))
-
-  pub none-twice : m ≤ t → rest ≡ andThen (allTo 8 ok m) rest
-  none-twice h = sym (ap (λ (v : Verdict). andThen v rest) (first .verdict ∙ ap (λ (b : Bool). cond b (refused 8 t) (accepted 0)) (le-ltb t m h)))
+pub none-twice : (l : FullLattice) → Limits (l .grid) → (m : ℕ) (rest : Verdict) → rest ≡ andThen (allTo 8 (namesOnce l) m) rest
+none-twice l limits m rest = sym (ap (λ (v : Verdict). andThen v rest) (never-twice l limits m))
 
 module _ {v : Verdict} {s : ℕ} (short : v ≡ numbered s) (rest : Verdict) where
   pub short-is : (s ≡ 6 → ⊥) → refused 6 s ≡ andThen v rest
@@ -198,16 +195,14 @@ module _ (l : FullLattice) (ch : Choice) (coarsest : ℕ) (f : ℕ → C64) (b :
 
 -- ---- 5, 8 and 6 as the code finds them
 
-module _ {ok : ℕ → Bool} {m t : ℕ} (first : FirstBad 8 ok m t) (v : Verdict) where
-  pub structure-twice : t < m → refused 8 t ≡ andThen (allTo 8 ok m) (andThen v (accepted (suc m)))
-  structure-twice h = twice-is first (andThen v (accepted (suc m))) h
+module _ (l : FullLattice) (limits : Limits (l .grid)) (m : ℕ) {v : Verdict} {s : ℕ} (short : v ≡ numbered s) where
+  pub structure-short : (s ≡ 6 → ⊥) → refused 6 s ≡ andThen (allTo 8 (namesOnce l) m) (andThen v (accepted (suc m)))
+  structure-short n = short-is short (accepted (suc m)) n ∙ none-twice l limits m (andThen v (accepted (suc m)))
 
-  module _ (h : m ≤ t) {s : ℕ} (short : v ≡ numbered s) where
-    pub structure-short : (s ≡ 6 → ⊥) → refused 6 s ≡ andThen (allTo 8 ok m) (andThen v (accepted (suc m)))
-    structure-short n = short-is short (accepted (suc m)) n ∙ none-twice first (andThen v (accepted (suc m))) h
-
-    pub structure-levels : s ≡ 6 → accepted (m + 1) ≡ andThen (allTo 8 ok m) (andThen v (accepted (suc m)))
-    structure-levels e = let z : m + 1 ≡ suc m = omega arith in ap accepted z ∙ none-short short (accepted (suc m)) e ∙ none-twice first (andThen v (accepted (suc m))) h
+  pub structure-levels : s ≡ 6 → accepted (m + 1) ≡ andThen (allTo 8 (namesOnce l) m) (andThen v (accepted (suc m)))
+  structure-levels e =
+      let z : m + 1 ≡ suc m = omega arith in
+      ap accepted z ∙ none-short short (accepted (suc m)) e ∙ none-twice l limits m (andThen v (accepted (suc m)))
 
 module _ (l : FullLattice) (ch : Choice) {depth : Depth} (h : Sizes) where
   pub structure-found : {n : ℕ} {v : Verdict} → depth ≡ Depth.Levels n

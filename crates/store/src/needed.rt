@@ -65,21 +65,13 @@ fn cells_of(lines: [Line; 36]) -> [usize; 36]
     cells
 }
 
-// Of m transfers: refusal 8, or the needs. `requires`: the lines of m + 1 levels, and no more.
+// Of m transfers: refusal 8, which nothing meets, or the needs. `requires`: the lines of m + 1 levels, and no more.
 fn levels_needed(choice: Choice, l: Lattice, st: &[f64], lines: [Line; 36], m: usize) -> Needed
     requires { ⌜ Limits (l .grid) ⌝ }
     requires { ⌜ m ≤ 11 ⌝ }
     requires { ⌜ lines ≡ linesTo (fullLattice l (now st)) (suc m) ⌝ }
     ensures { λ r. ⌜ NeededOf (fullLattice l (now (st .entry))) choice m (andThen (allTo 8 (namesOnce (fullLattice l (now (st .entry)))) m) (accepted (suc m))) r ⌝ }
 {
-    let t = needs::twice(l, st, lines, m);
-    if t < m {
-        return Needed {
-            answer: Answer::Twice(t),
-            needs: no_needs(),
-            cells: no_cells(),
-        };
-    }
     Needed {
         answer: Answer::Levels(m + 1),
         needs: needs::count(l, st, lines, m, choice),

@@ -9,9 +9,9 @@ ghost use Rattle.lattice.specs.Grid.{Limits};
 ghost use Rattle.lattice.specs.Lattice.{fullLattice};
 ghost use Rattle.operators.specs.LevelLists.{edgesOn};
 ghost use Rattle.store.specs.Layout.{forwardOff, operatorCount, operatorOff, endsOff};
-ghost use Rattle.store.specs.Setup.{roomOf, namesOnce};
+ghost use Rattle.store.specs.Setup.{roomOf};
 ghost use Rattle.store.specs.Phases.{HasLines};
-ghost use Rattle.store.specs.FillSteps.{coarseTerms, onlyCount, needsOf, firstShort, shortIn, FirstBad};
+ghost use Rattle.store.specs.FillSteps.{coarseTerms, onlyCount, needsOf, firstShort, shortIn};
 ghost use Rattle.store.specs.declared.Choice.the-variants.{Galerkin, Rediscretized};
 use crate::Choice;
 use crate::lines;
@@ -256,23 +256,4 @@ pub fn short(n: Needs, h: Lengths) -> usize
     let e = has_room(n.ostarts, n.oterms, h.ostarts, h.ocolumns, h.ovalues);
     let f = n.scaling <= h.scaling / 2;
     first_short(a, b, c, d, e, f)
-}
-
-// ---- refusal 8
-
-// The first of m levels the transfer to which has a row that names a coarse edge twice; m if there is none.
-pub fn twice(l: Lattice, st: &[f64], lines: [Line; 36], m: usize) -> usize
-    requires { ⌜ Limits (l .grid) ⌝ }
-    requires { ⌜ m ≤ 11 ⌝ }
-    requires { ⌜ HasLines (fullLattice l (now st)) m lines ⌝ }
-    ensures { λ r. ⌜ FirstBad 8 (namesOnce (fullLattice l (now (st .entry)))) m r ⌝ }
-{
-    for level in 0..m {
-        let fine = lines::three(lines, level);
-        let coarse = lines::three(lines, level + 1);
-        if prolongation::names_twice(l, st, fine, coarse) {
-            return level;
-        }
-    }
-    m
 }

@@ -54,7 +54,7 @@ pub fn goes_on(a: Answer) -> bool
 
 // ---- structure
 
-// Refusals 8 and 6 of m transfers, or the level count.
+// Refusals 8 and 6 of m transfers, or the level count. Nothing looks for 8: it is proved that no row of a transfer names an edge twice.
 fn levels_structure(
     choice: Choice,
     l: Lattice,
@@ -69,10 +69,6 @@ fn levels_structure(
     ensures { λ r. ⌜ answerOf r ≡ andThen (allTo 8 (namesOnce (fullLattice l (now (st .entry)))) m)
         (andThen (shortOf (fullLattice l (now (st .entry))) choice m (sizesOf h)) (accepted (suc m))) ⌝ }
 {
-    let t = needs::twice(l, st, lines, m);
-    if t < m {
-        return Answer::Twice(t);
-    }
     let s = needs::short(needs::count(l, st, lines, m, choice), h);
     if s == 6 {
         return Answer::Levels(m + 1);

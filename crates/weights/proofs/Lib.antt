@@ -11,6 +11,7 @@ pub mod RowLaws
 pub mod TableLaws
 pub mod SlotLaws
 pub mod MeaningLaws
+pub mod RowNumbers
 pub mod RowReads
 pub mod CountLaws
 pub mod WholeLaws

@@ -19,7 +19,7 @@ use Rattle.lattice.specs.declared.grid.Position.{Position}
 use Rattle.lattice.specs.declared.levels.Three.{Three}
 use Rattle.lattice.specs.Grid.{nOf, placeOn, atOf, unknownsOf, Limits, Inside}
 use Rattle.lattice.specs.Lattice.{FullLattice}
-use Rattle.numbers.specs.Lists.{tabulate, each, rows, Laid, laidNumbers, allFinite, startOf, startsOf, someRepeats, Numbers, entryAt, placesIn}
+use Rattle.numbers.specs.Lists.{tabulate, each, rows, Laid, laidNumbers, allFinite, startOf, startsOf, Numbers, entryAt, placesIn}
 use Rattle.numbers.specs.Terms.{Term, numbersOf}
 use Rattle.lattice.proofs.GridLaws.{n-most, place-inside, at-inside, unknowns-most}
 use Rattle.numbers.proofs.TabulateLaws.{length-tabulate, tabulate-at}
@@ -35,7 +35,6 @@ use Rattle.numbers.proofs.ListLaws.{rows-agree, long-as, read-at, read-back, la
 use Rattle.numbers.proofs.EachLaws.{length-columns, columns-at as column-at, numbers-at as number-at}
 use Rattle.numbers.proofs.Equations.{startOf-is}
 use Rattle.lattice.proofs.Equations.{placeOn-0, placeOn-1, placeOn-2}
-use Rattle.numbers.proofs.RepeatLaws.{repeats-agree}
 use Rattle.numbers.proofs.LoopLaws.{either-below, tabulate-map, numbers-one, numbers-each, start-zero, start-suc, start-long}
 use Rattle.weights.proofs.RowLaws.{slot-part}
 use Rattle.weights.proofs.TwoLevelLaws.{fine-n, coarse-n}
@@ -46,17 +45,17 @@ use Rattle.weights.proofs.SlotLaws.{slot-most, slot-inside, coarse-some
 -- ---- the slot of an axis, a role and a place
 
 module _ (a i : ℕ) (h : i < 64) where
-  pub slot-axis : (along : Bool) → slotAxis (slotOf a along i) ≡ a
+  slot-axis : (along : Bool) → slotAxis (slotOf a along i) ≡ a
   unfolding slotAxis slotOf
   slot-axis true = omega arith
   slot-axis false = omega arith
 
-  pub slot-along : (along : Bool) → slotAlong (slotOf a along i) ≡ along
+  slot-along : (along : Bool) → slotAlong (slotOf a along i) ≡ along
   unfolding slotAlong slotOf
   slot-along true = let e : (128 * a + 64 + i) / 64 % 2 ≡ 1 = omega arith in rw e
   slot-along false = let e : (128 * a + 0 + i) / 64 % 2 ≡ 0 = omega arith in rw e
 
-  pub slot-place : (along : Bool) → slotPlace (slotOf a along i) ≡ i
+  slot-place : (along : Bool) → slotPlace (slotOf a along i) ≡ i
   unfolding slotPlace slotOf
   slot-place true = omega arith
   slot-place false = omega arith
@@ -84,7 +83,7 @@ module _ (t : TwoLevels) (q d : ℕ) (h : d < 2) where
   unfolding placeEntry
   entry-place = rw (entry-slot q d h, entry-no q d h)
 
-  pub entry-node : nodeEntry t (2 * q + d) ≡ cond (slotAlong q) (slotPlace q) (nodeOn t (slotAxis q) (getD (slotPlaces t q) d 0))
+  entry-node : nodeEntry t (2 * q + d) ≡ cond (slotAlong q) (slotPlace q) (nodeOn t (slotAxis q) (getD (slotPlaces t q) d 0))
   unfolding nodeEntry
   entry-node = rw (entry-place, entry-slot q d h)
 
@@ -126,18 +125,18 @@ module _ (t : TwoLevels) (p : Position) (m : Limits (fineGrid t)) (f : Inside (f
   on-fine : (a : ℕ) → placeOn p a < fineCells t a
   on-fine a = rw fine-n at (place-inside f a)
 
-  pub on-low : (a : ℕ) → placeOn p a < 64
+  on-low : (a : ℕ) → placeOn p a < 64
   on-low a = omega (arith, place-inside f a, n-most m a)
 
-  pub on-slot : (a : ℕ) → a < 3 → slotOn p a (placeOn p a) < 384
+  on-slot : (a : ℕ) → a < 3 → slotOn p a (placeOn p a) < 384
   on-slot a h = slot-part p a (placeOn p a) h (on-low a) .below
 
-  pub on-free : (a : ℕ) → slotPlaces t (slotOn p a (placeOn p a)) ≡ freePlaces t a (isAlong p a) (placeOn p a)
+  on-free : (a : ℕ) → slotPlaces t (slotOn p a (placeOn p a)) ≡ freePlaces t a (isAlong p a) (placeOn p a)
   unfolding slotOn
   on-free a = slot-free a (placeOn p a) (on-low a) t (isAlong p a) (on-fine a)
 
   module _ {ns : List ℕ} (n : ns ≡ tabulate (countEntry t) 384 0) where
-    pub on-count : (a : ℕ) → a < 3 → getD ns (slotOn p a (placeOn p a)) 0 ≡ length (freePlaces t a (isAlong p a) (placeOn p a))
+    on-count : (a : ℕ) → a < 3 → getD ns (slotOn p a (placeOn p a)) 0 ≡ length (freePlaces t a (isAlong p a) (placeOn p a))
     on-count a h = count-is t n (slotOn p a (placeOn p a)) (on-slot a h) ∙ ap (λ (ms : List ℕ). length ms) (on-free a)
 
     -- how many weights its row has
@@ -156,7 +155,7 @@ module _ (t : TwoLevels) (p : Position) (m : Limits (fineGrid t)) (f : Inside (f
 -- ---- columns
 
 -- what agrees for each element
-pub each-both : {A B : Type 0} (f g : A → List B) (xs ys : List A) → ((x : A) → f x ≡ g x) → xs ≡ ys → each f xs ≡ each g ys
+each-both : {A B : Type 0} (f g : A → List B) (xs ys : List A) → ((x : A) → f x ≡ g x) → xs ≡ ys → each f xs ≡ each g ys
 each-both f g xs ys p q = λ k. each (λ x. p x k) (q k)
 
 module _ (t : TwoLevels) (p : Position) (m : Limits (fineGrid t)) (f : Inside (fineGrid t) p) {ps ns : List ℕ}
@@ -386,11 +385,6 @@ module _ {l : FullLattice} {fine coarse : Three} {gf gc : Grid3d} {ps ns : List 
   laid-rows {xs} {ys} {k} {last} h =
       let e : last ≡ k + (last - k) = omega (arith, h .next) in
       rw (rows-same, e) at h
-
-  pub repeats-same : someRepeats (columnsRow gf gc ps ns) (unknownsOf gf) ≡ someRepeats (weightColumns (twoOf l fine coarse)) (unknownsOf (fineGrid (twoOf l fine coarse)))
-  repeats-same =
-      repeats-agree (columnsRow gf gc ps ns) (weightColumns (twoOf l fine coarse)) (unknownsOf gf) columns-row
-      ∙ ap (λ (g : Grid3d). someRepeats (weightColumns (twoOf l fine coarse)) (unknownsOf g)) (s .fine-is)
 
 -- ---- how many weights there are
 

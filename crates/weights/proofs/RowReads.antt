@@ -1,180 +1,257 @@
--- One row of the prolongation: how many numbers it has, and the permittivities that it reads, from the lists of slots as from the levels.
+-- What a row of the prolongation reads of the fine level is read by the permittivity of one of its columns: along its component a fine edge takes, among others,
+-- the coarse edge that it lies in.
 -- Assumes nothing.
-use Prim.Native.Nat.{ℕ, _+_, _-_, _*_, _<_, _≤_, _^_}
-use mathlib.Core.Path.{_≡_, refl, sym, ap, _∙_}
-use mathlib.Core.Bool.{Bool, cond, _||_}
-use mathlib.Core.List.{List, [], _∷_, map}
+use Prim.Native.Nat.{ℕ, zero, suc, _+_, _-_, _<_, _≤_}
+use native.Mathlib.Decide.{decLt}
 use native.Mathlib.Omega.{arith}
-use native.Mathlib.Nat.{mul-assoc}
-use lib.ListN.{length, getD, set, length-map}
-use lib.Seq.{ext-getD}
-use lib.Ieee.{Float}
-use Rattle.numbers.specs.declared.C64.{C64}
-use Rattle.numbers.specs.Places.{numberAt, setNumber}
-use Rattle.numbers.specs.Lists.{tabulate, each, Laid, laidNumbers, allFinite, anyFlag, entryAt, placesIn}
-use Rattle.numbers.proofs.TabulateLaws.{length-tabulate, tabulate-at}
-use Rattle.numbers.proofs.EachLaws.{product-sieved, each-count}
-use Rattle.numbers.proofs.MapLaws.{map-at, each-map}
-use Rattle.numbers.proofs.ListLaws.{read-at, places-laid}
-use Rattle.lattice.specs.declared.grid.Grid3d.{Grid3d}
+use mathlib.Core.Path.{_≡_, refl, sym, ap, subst, _∙_}
+use mathlib.Core.Logic.{⊎-elim}
+use mathlib.Core.Bool.{Bool, true, false, cond, _||_}
+use mathlib.Core.List.{List, [], _∷_}
+use borrow.Author.Tests.{eqb-true}
+use lib.Dec.{eqb}
+use lib.ListN.{length, getD}
+use Rattle.numbers.specs.Lists.{In, each}
+use Rattle.numbers.proofs.EachLaws.{product-sieved}
+use Rattle.numbers.proofs.ListLaws.{rises-below}
+use Rattle.numbers.proofs.MemberLaws.{all-in, each-in}
+use Rattle.numbers.proofs.TransposedLaws.{tabulate-in}
 use Rattle.lattice.specs.declared.grid.Position.{Position}
-use Rattle.lattice.specs.declared.levels.Three.{Three}
-use Rattle.lattice.specs.Grid.{placeOn, atOf, unknownsOf, Limits, Inside}
-use Rattle.lattice.specs.Lattice.{FullLattice}
-use Rattle.lattice.proofs.GridLaws.{at-inside}
-use Rattle.lattice.proofs.Equations.{placeOn-0, placeOn-1, placeOn-2}
-use Rattle.weights.specs.TwoLevels.{TwoLevels, fineGrid, twoOf}
-use Rattle.weights.specs.Prolongation.{isAlong, readPlace, readEdge, readAt, nestZ, nestY, nest, weightReads}
-use Rattle.weights.specs.Product.{freePlaces, columnIn}
-use Rattle.weights.specs.Tables.{slotOf, slotOn, slotPlaces, countEntry, nodeEntry, pullIn, pullsIn, columnsInZ, columnsInY, columnsIn, numberIn, numbersInZ, numbersInY, numbersIn, PlacesOf, NodesOf, columnsRow, numbersRow, readsRow, countIn}
-use Rattle.weights.proofs.ProductLaws.{barredOn, fixed-coarse, fixed-fine, free-places, free-most}
-use Rattle.weights.proofs.MeaningLaws.{slot-axis, slot-along, slot-place, entry-node, on-low, on-slot, on-free, on-count, each-both, read-room, read-same, Slotted}
-use Rattle.weights.proofs.RowLaws.{place-small, columns-most}
-use Rattle.weights.proofs.RepeatLaws.{count-few}
+use Rattle.lattice.specs.declared.lattice.Edges.{Edges}
+use Rattle.lattice.specs.Grid.{axis3, placeOn, movedTo, indexOf, atOf, unknownsOf, Limits, Inside}
+use Rattle.lattice.specs.Lattice.{FullLattice, edgesOf}
+use Rattle.lattice.specs.Line.{placeOf, nodesOf, LineOver}
+use Rattle.lattice.proofs.CurlLaws.{place-along, rises-most}
+use Rattle.lattice.proofs.Equations.{placeOn-is, placeOn-0, placeOn-1, placeOn-2, movedTo-0, movedTo-1, movedTo-2}
+use Rattle.lattice.proofs.GridLaws.{n-some, place-inside, at-inside, at-index}
+use Rattle.lattice.proofs.LevelLaws.{line-over}
+use Rattle.lattice.proofs.NestLaws.{axis3-0, axis3-1, axis3-2, EndsAmong, nodes-end, nodes-low, line-among}
+use Rattle.weights.specs.CoarseEps.{onFine, edgeAlong, edgesAlong, cellEdges, epsReads}
+use Rattle.weights.specs.Interpolate.{valuePlaces, takenPlaces}
+use Rattle.weights.specs.Product.{walled, freePlaces}
+use Rattle.weights.specs.Prolongation.{isAlong, edgeAt, readPlace, readEdge, readAt, nestZ, nestY, nest, weightColumns, weightReads}
+use Rattle.weights.specs.TwoLevels.{TwoLevels, fineLine, coarseLine, fineCells, coarseCells, nodeOn, gridWith, fineGrid, coarseGrid, twoAt}
+use Rattle.weights.proofs.LevelLines.{node-is}
+use Rattle.weights.proofs.PairLaws.{both-lines, fine-limits, coarse-limits}
+use Rattle.weights.proofs.ProductLaws.{barredOn, fixed-coarse, fixed-fine, free-places, free-all, columns-product}
+use Rattle.weights.proofs.TakenLaws.{cell-taken, in-free, axis-places-at, Named, named-columns}
+use Rattle.weights.proofs.TwoLevelLaws.{fine-n, coarse-n}
 
--- ---- how many numbers a row has
-
-module _ (gf gc : Grid3d) (f g : ℕ → C64) (ps ds ns : List ℕ) (xs : List Float) (p : Position) where
-  pub numbers-long : length (numbersIn gf gc f g ps ds ns xs p) ≡ countIn ns p
-  unfolding numbersIn numbersInY numbersInZ numberIn countIn
-  numbers-long =
-      let x = getD ns (slotOn p 0 (p .i)) 0 in
-      let y = getD ns (slotOn p 1 (p .j)) 0 in
-      let z = getD ns (slotOn p 2 (p .k)) 0 in
-      let lx : length (pullsIn ps ds xs (2 * slotOn p 0 (p .i)) x) ≡ x = length-tabulate (pullIn ps ds xs) x (2 * slotOn p 0 (p .i)) in
-      let ly : length (pullsIn ps ds xs (2 * slotOn p 1 (p .j)) y) ≡ y = length-tabulate (pullIn ps ds xs) y (2 * slotOn p 1 (p .j)) in
-      let lz : length (pullsIn ps ds xs (2 * slotOn p 2 (p .k)) z) ≡ z = length-tabulate (pullIn ps ds xs) z (2 * slotOn p 2 (p .k)) in
-      let one : z * 1 ≡ z = omega arith in
-      let e : length (numbersIn gf gc f g ps ds ns xs p) ≡ x * (y * (z * 1)) =
-      each-count (numbersInY gf gc f g ps ds ns xs p) (y * (z * 1))
-      (λ u. each-count (numbersInZ gf gc f g ps ds ns xs p u) (z * 1)
-      (λ v. each-count (numberIn gf gc f g p u v) 1 (λ w. refl) (pullsIn ps ds xs (2 * slotOn p 2 (p .k)) z) ∙ ap (λ (m : ℕ). m * 1) lz)
-      (pullsIn ps ds xs (2 * slotOn p 1 (p .j)) y)
-      ∙ ap (λ (m : ℕ). m * (z * 1)) ly)
-      (pullsIn ps ds xs (2 * slotOn p 0 (p .i)) x)
-      ∙ ap (λ (m : ℕ). m * (y * (z * 1))) lx in
-      e ∙ rw one (sym (mul-assoc x y z))
-
--- ---- the permittivities that a row reads, as a product over the axes
+-- ---- the edges that a row reads, as a product over the axes
 
 unfoldable readIn : TwoLevels → Position → ℕ → ℕ → ℕ → List ℕ
 readIn t p i j k = readEdge t p i j k ∷ []
 
+unfoldable readsZ : TwoLevels → Position → ℕ → ℕ → List ℕ
+readsZ t p i j = each (readIn t p i j) (freePlaces t 2 (isAlong p 2) (p .k))
+
+unfoldable readsY : TwoLevels → Position → ℕ → List ℕ
+readsY t p i = each (readsZ t p i) (freePlaces t 1 (isAlong p 1) (p .j))
+
 unfoldable productReads : TwoLevels → Position → List ℕ
-productReads t p =
-    each (λ i. each (λ j. each (readIn t p i j) (freePlaces t 2 (isAlong p 2) (p .k))) (freePlaces t 1 (isAlong p 1) (p .j))) (freePlaces t 0 (isAlong p 0) (p .i))
+productReads t p = each (readsY t p) (freePlaces t 0 (isAlong p 0) (p .i))
 
 tested-read : (t : TwoLevels) (p : Position) (i j k : ℕ) → readAt t p i j k ≡ cond (barredOn t p 0 i || (barredOn t p 1 j || barredOn t p 2 k)) [] (readIn t p i j k)
 unfolding readAt readIn
 tested-read t p i j k = rw (fixed-coarse t p i j k)
 
 reads-product : (t : TwoLevels) (r : ℕ) → weightReads t r ≡ productReads t (atOf (fineGrid t) r)
-unfolding weightReads nest nestY nestZ productReads
+unfolding weightReads nest nestY nestZ productReads readsY readsZ
 reads-product t r =
     let p = atOf (fineGrid t) r in
     product-sieved (barredOn t p 0) (barredOn t p 1) (barredOn t p 2) (readAt t p) (readIn t p) (tested-read t p)
     (fixed-fine t p) (free-places t 0 (isAlong p 0) (p .i)) (free-places t 1 (isAlong p 1) (p .j)) (free-places t 2 (isAlong p 2) (p .k))
 
--- ---- from the lists of slots
+-- edge d is read for the column at three places
+record ReadFor (t : TwoLevels) (p : Position) (d : ℕ) : Type 0 where
+  i : ℕ
+  j : ℕ
+  k : ℕ
+  x : In i (freePlaces t 0 (isAlong p 0) (p .i))
+  y : In j (freePlaces t 1 (isAlong p 1) (p .j))
+  z : In k (freePlaces t 2 (isAlong p 2) (p .k))
+  is : d ≡ readEdge t p i j k
 
-module _ (t : TwoLevels) {ds ns : List ℕ} (n : ns ≡ tabulate (countEntry t) 384 0) (o : ds ≡ tabulate (nodeEntry t) 768 0)
-    (p : Position) (m : Limits (fineGrid t)) (f : Inside (fineGrid t) p) where
-  -- the fine place of an entry of a position's slot on an axis
-  on-node : (a : ℕ) → a < 3 → (d : ℕ) → d < 2
-      → getD ds (2 * slotOn p a (placeOn p a) + d) 0 ≡ readPlace t p a (getD (freePlaces t a (isAlong p a) (placeOn p a)) d 0)
-  unfolding readPlace slotOn
-  on-node a h d b =
-      let q : ℕ = slotOf a (isAlong p a) (placeOn p a) in
-      let i : placeOn p a < 64 = on-low t p m f a in
-      let k : q < 384 = on-slot t p m f a h in
-      let free : slotPlaces t q ≡ freePlaces t a (isAlong p a) (placeOn p a) = on-free t p m f a in
-      read-at (nodeEntry t) 768 o (2 * q + d) 0 (omega arith)
-      ∙ entry-node t q d b
-      ∙ rw (free, slot-axis a (placeOn p a) i (isAlong p a), slot-along a (placeOn p a) i (isAlong p a), slot-place a (placeOn p a) i (isAlong p a))
+read-for : (t : TwoLevels) (p : Position) (d : ℕ) → In d (productReads t p) → ReadFor t p d
+unfolding productReads readsY readsZ readIn
+read-for t p d h =
+    let x = each-in (readsY t p) (freePlaces t 0 (isAlong p 0) (p .i)) d h in
+    let y = each-in (readsZ t p (x .by)) (freePlaces t 1 (isAlong p 1) (p .j)) d (x .gives) in
+    let z = each-in (readIn t p (x .by) (y .by)) (freePlaces t 2 (isAlong p 2) (p .k)) d (y .gives) in
+    record { i = x .by; j = y .by; k = z .by; x = x .there; y = y .there; z = z .there; is = ⊎-elim (λ e. e) (λ n. absurd n) (z .gives) }
 
-  on-all : (a : ℕ) → a < 3
-      → placesIn ds (2 * slotOn p a (placeOn p a)) (getD ns (slotOn p a (placeOn p a)) 0) ≡ map (readPlace t p a) (freePlaces t a (isAlong p a) (placeOn p a))
-  on-all a h =
-      let q = slotOn p a (placeOn p a) in
-      let ms = freePlaces t a (isAlong p a) (placeOn p a) in
-      let c : getD ns q 0 ≡ length ms = on-count t p m f n a h in
-      let l : length (placesIn ds (2 * q) (getD ns q 0)) ≡ getD ns q 0 = length-tabulate (entryAt ds) (getD ns q 0) (2 * q) in
-      ext-getD 0 (placesIn ds (2 * q) (getD ns q 0)) (map (readPlace t p a) ms)
-      (l ∙ c ∙ sym (length-map ms (readPlace t p a)))
-      (λ d b.
-      tabulate-at (entryAt ds) (getD ns q 0) (2 * q) d 0 (omega arith)
-      ∙ on-node a h d (omega (arith, free-most t a (isAlong p a) (placeOn p a)))
-      ∙ sym (map-at (readPlace t p a) ms d 0 0 (omega arith)))
+-- ---- a line and the next coarser one: fine cell i lies between two neighbouring coarse nodes, and takes the value of that coarse cell
 
-  -- what g gives for each of them
-  on-each : {A : Type 0} (g : ℕ → List A) (a i : ℕ) → placeOn p a ≡ i → a < 3
-      → each g (placesIn ds (2 * slotOn p a i) (getD ns (slotOn p a i) 0)) ≡ each (λ k. g (readPlace t p a k)) (freePlaces t a (isAlong p a) i)
-  on-each g a i e h = rw (← e) (ap (each g) (on-all a h) ∙ each-map g (readPlace t p a) (freePlaces t a (isAlong p a) (placeOn p a)))
+record Owner (es cs : List ℕ) (e : Edges) (i : ℕ) : Type 0 where
+  cell : ℕ
+  low : cell < length cs - 1
+  begins : getD (nodesOf es cs) cell 0 ≤ i
+  ends : i < getD (nodesOf es cs) (cell + 1) 0
+  takes : In cell (takenPlaces e (valuePlaces cs true) true (placeOf es i true))
 
-  reads-z : (i j : ℕ) → columnsInZ (fineGrid t) ds ns p (readPlace t p 0 i) (readPlace t p 1 j) ≡ each (readIn t p i j) (freePlaces t 2 (isAlong p 2) (p .k))
-  unfolding columnsInZ columnIn readIn readEdge
-  reads-z i j = on-each (columnIn (fineGrid t) p (readPlace t p 0 i) (readPlace t p 1 j)) 2 (p .k) (placeOn-2 p) (omega arith)
+module _ {n : ℕ} {es cs : List ℕ} (fine : LineOver n es) (coarse : LineOver n cs) (kept : EndsAmong cs es) (i : ℕ) (h : i < length es - 1) where
+  -- the coarse cell whose ends enclose the fine cell's first end, below coarse node k
+  enclosing : (k : ℕ) → k < length cs → getD es i 0 < getD cs k 0 → (m : ℕ) × (m < length cs - 1) × (getD cs m 0 ≤ getD es i 0) × (getD es i 0 < getD cs (m + 1) 0)
+  enclosing zero b u = absurd (omega (arith, coarse .first))
+  enclosing (suc k) b u = go (decLt (getD es i 0) (getD cs k 0)) (enclosing k (omega arith))
+    where
+      go : Dec (getD es i 0 < getD cs k 0) → (getD es i 0 < getD cs k 0 → (m : ℕ) × (m < length cs - 1) × (getD cs m 0 ≤ getD es i 0) × (getD es i 0 < getD cs (m + 1) 0))
+          → (m : ℕ) × (m < length cs - 1) × (getD cs m 0 ≤ getD es i 0) × (getD es i 0 < getD cs (m + 1) 0)
+      go (yes c) before = before c
+      go (no c) before = let e : k + 1 ≡ suc k = omega arith in (k, omega arith, omega arith, rw e u)
 
-  reads-y : (i : ℕ) → columnsInY (fineGrid t) ds ns p (readPlace t p 0 i)
-      ≡ each (λ j. each (readIn t p i j) (freePlaces t 2 (isAlong p 2) (p .k))) (freePlaces t 1 (isAlong p 1) (p .j))
-  unfolding columnsInY
-  reads-y i =
-      on-each (columnsInZ (fineGrid t) ds ns p (readPlace t p 0 i)) 1 (p .j) (placeOn-1 p) (omega arith)
-      ∙ each-both (λ j. columnsInZ (fineGrid t) ds ns p (readPlace t p 0 i) (readPlace t p 1 j)) (λ j. each (readIn t p i j) (freePlaces t 2 (isAlong p 2) (p .k))) _ _ (reads-z i) refl
+  module _ (m : ℕ) (low : m < length cs - 1) (from : getD cs m 0 ≤ getD es i 0) (to : getD es i 0 < getD cs (m + 1) 0) where
+    abbrev first : ℕ
+    first = getD (nodesOf es cs) m 0
 
-  reads-at : columnsIn (fineGrid t) ds ns p ≡ productReads t p
-  unfolding columnsIn productReads
-  reads-at =
-      on-each (columnsInY (fineGrid t) ds ns p) 0 (p .i) (placeOn-0 p) (omega arith)
-      ∙ each-both (λ i. columnsInY (fineGrid t) ds ns p (readPlace t p 0 i)) (λ i. each (λ j. each (readIn t p i j) (freePlaces t 2 (isAlong p 2) (p .k))) (freePlaces t 1 (isAlong p 1) (p .j))) _ _ reads-y refl
+    abbrev last : ℕ
+    last = getD (nodesOf es cs) (m + 1) 0
 
--- what a row reads, from the tables of two levels
-pub reads-row : {l : FullLattice} {fine coarse : Three} {gf gc : Grid3d} {ps ns ds : List ℕ} → Slotted l fine coarse gf gc ps ns
-    → ds ≡ tabulate (nodeEntry (twoOf l fine coarse)) 768 0 → (r : ℕ) → r < unknownsOf gf → readsRow gf ds ns r ≡ weightReads (twoOf l fine coarse) r
-unfolding readsRow columnsRow
-reads-row {l} {fine} {coarse} s o r h =
-    let t : TwoLevels = twoOf l fine coarse in
-    let b : r < unknownsOf (fineGrid t) = rw (s .fine-is) at h in
-    rw (s .fine-is, reads-product t r)
-    (reads-at t (s .counts) o (atOf (fineGrid t) r) (s .paired .fine-limits) (at-inside (s .paired .fine-limits) r b))
+    begins : first ≤ i
+    begins = go (decLt i first)
+      where
+        go : Dec (i < first) → first ≤ i
+        go (yes c) =
+            let u : getD es i 0 < getD es first 0 = rises-below es (fine .rises) i first c (nodes-low fine coarse kept m (omega arith)) in
+            absurd (omega (arith, nodes-end fine coarse kept m (omega arith)))
+        go (no c) = omega arith
 
--- the fine places are places as `weights_flagged` asks
-pub nodes-placed : {gf gc : Grid3d} {ps ds ns : List ℕ} → PlacesOf gc ps ns → NodesOf gf ds ns → PlacesOf gf ds ns
-nodes-placed u v = record { places-long = v .nodes-long; counts-long = u .counts-long; few = u .few; place-in = v .node-in }
+    ends : i < last
+    ends = go (decLt i last)
+      where
+        go : Dec (i < last) → i < last
+        go (yes c) = c
+        go (no c) =
+            let u : getD es last 0 ≤ getD es i 0 = rises-most es (fine .rises) last i (omega arith) (omega arith) in
+            absurd (omega (arith, nodes-end fine coarse kept (m + 1) (omega arith)))
 
--- in a list of eight places
-module _ {gf : Grid3d} {ds ns : List ℕ} {p : Position} {xs ys : List ℕ} {n : ℕ} (l : Limits gf) (i : Inside gf p) (h : PlacesOf gf ds ns)
-    (w : Laid set xs 0 (columnsIn gf ds ns p) ys n) (e : length xs ≡ 8) where
-  pub row-flagged : (flags : List Bool) (r : ℕ) {b : Bool} → p ≡ atOf gf r → b ≡ anyFlag flags (placesIn ys 0 n) → b ≡ anyFlag flags (readsRow gf ds ns r)
-  unfolding readsRow columnsRow
-  row-flagged flags r {b} o q =
-      let s = place-small l i in
-      let cs = columnsIn gf ds ns p in
-      let m : n ≡ length cs = omega (arith, w .next) in
-      let k : placesIn ys 0 n ≡ cs = (λ j. placesIn (w .list j) 0 (m j)) ∙ places-laid xs 0 cs (omega (arith, columns-most h p (s .0) (s .1) (s .2))) in
-      q ∙ ap (anyFlag flags) k ∙ ap (λ (d : Position). anyFlag flags (columnsIn gf ds ns d)) o
+    takes : (e : Edges) → In m (takenPlaces e (valuePlaces cs true) true (placeOf es i true))
+    takes e =
+        let up : getD es i 0 < getD es (i + 1) 0 = rises-below es (fine .rises) i (i + 1) (omega arith) (omega arith) in
+        let in-last : getD es (i + 1) 0 ≤ getD es last 0 = rises-most es (fine .rises) (i + 1) last (omega (arith, ends)) (nodes-low fine coarse kept (m + 1) (omega arith)) in
+        rw place-along
+        (cell-taken cs (coarse .rises) m low (getD es i 0) (getD es (i + 1) 0) up from (omega (arith, nodes-end fine coarse kept (m + 1) (omega arith))) e)
 
--- ---- the numbers of a row, laid
+  owner : (e : Edges) → Owner es cs e i
+  owner e =
+      let u : getD es i 0 < getD es (length es - 1) 0 = rises-below es (fine .rises) i (length es - 1) h (omega arith) in
+      let t = enclosing (length cs - 1) (omega (arith, coarse .some)) (omega (arith, fine .last, coarse .last)) in
+      record {
+        cell = t .0;
+        low = t .1;
+        begins = begins (t .0) (t .1) (t .2) (t .3);
+        ends = ends (t .0) (t .1) (t .2) (t .3);
+        takes = takes (t .0) (t .1) (t .2) (t .3) e;
+      }
 
-pub row-few : {gf gc : Grid3d} {ps ns : List ℕ} {r : ℕ} → Limits gf → PlacesOf gc ps ns → r < unknownsOf gf → countIn ns (atOf gf r) ≤ 8
-row-few {gf} {gc} {ps} {ns} {r} l u h = count-few l (at-inside l r h) (record { long = u .counts-long; few = u .few })
+-- ---- a column with its place along component c set to m
 
--- they can be read back, and the test is of them
-module _ (gf gc : Grid3d) (f g : ℕ → C64) (ps ds ns : List ℕ) (xs : List Float) (r : ℕ) {p : Position} (e : p ≡ atOf gf r) where
-  row-laid : {ys zs : List Float} {k last : ℕ} → Laid setNumber ys k (numbersIn gf gc f g ps ds ns xs p) zs last → Laid setNumber ys k (numbersRow gf gc f g ps ds ns xs r) zs last
-  unfolding numbersRow
-  row-laid w = rw e at w
+along-own : (c m i j k : ℕ) → c < 3 → axis3 c (cond (eqb 0 c) m i) (cond (eqb 1 c) m j) (cond (eqb 2 c) m k) ≡ m
+along-own zero m i j k h = axis3-0 m j k
+along-own (suc zero) m i j k h = axis3-1 i m k
+along-own (suc (suc zero)) m i j k h = axis3-2 i j m
+along-own (suc (suc (suc c))) m i j k h = absurd (omega arith)
 
-  row-long : length (numbersRow gf gc f g ps ds ns xs r) ≡ countIn ns (atOf gf r)
-  unfolding numbersRow
-  row-long = numbers-long gf gc f g ps ds ns xs (atOf gf r)
+-- the node of that column, moved along the component to the place of position p, is where the column before reads
+moved-own : (f : ℕ → ℕ → ℕ) (p : Position) (c m i j k : ℕ) → c < 3
+    → movedTo (record { component = c; i = f 0 (cond (eqb 0 c) m i); j = f 1 (cond (eqb 1 c) m j); k = f 2 (cond (eqb 2 c) m k) }) c (placeOn p c)
+    ≡ record { component = c; i = cond (eqb 0 c) (placeOn p 0) (f 0 i); j = cond (eqb 1 c) (placeOn p 1) (f 1 j); k = cond (eqb 2 c) (placeOn p 2) (f 2 k) }
+moved-own f p zero m i j k h = movedTo-0 (record { component = 0; i = f 0 m; j = f 1 j; k = f 2 k }) (placeOn p 0)
+moved-own f p (suc zero) m i j k h = movedTo-1 (record { component = 1; i = f 0 i; j = f 1 m; k = f 2 k }) (placeOn p 1)
+moved-own f p (suc (suc zero)) m i j k h = movedTo-2 (record { component = 2; i = f 0 i; j = f 1 j; k = f 2 m }) (placeOn p 2)
+moved-own f p (suc (suc (suc c))) m i j k h = absurd (omega arith)
 
-  module _ {ys zs : List Float} {k last : ℕ} (w : Laid setNumber ys k (numbersIn gf gc f g ps ds ns xs p) zs last) where
-    pub row-is : zs ≡ laidNumbers ys k (numbersRow gf gc f g ps ds ns xs r)
-    row-is = row-laid w .list
+-- ---- the levels of a lattice
 
-    pub row-room : countIn ns (atOf gf r) ≤ 8 → k ≤ 2 ^ 32 → 2 * (k + countIn ns (atOf gf r)) ≤ length ys → (k + (last - k) < 2 ^ 40) × (2 * (k + (last - k)) ≤ length zs)
-    row-room few low room = read-room (row-laid w) row-long (omega arith) low room
+module _ (l : FullLattice) (limits : Limits (l .grid)) (L : ℕ) where
+  abbrev two : TwoLevels
+  two = twoAt l L
 
-    pub row-finite : 2 * (k + countIn ns (atOf gf r)) ≤ length ys → allFinite (tabulate (numberAt zs) (last - k) k) ≡ allFinite (numbersRow gf gc f g ps ds ns xs r)
-    row-finite room = read-same (row-laid w) row-long room
+  owner-at : (a i : ℕ) → i < fineCells two a → Owner (fineLine two a) (coarseLine two a) (edgesOf l a) i
+  unfolding fineCells
+  owner-at a i =
+      both-lines l L a (λ es cs. i < length es - 1 → Owner es cs (edgesOf l a) i)
+      (λ b h. owner (line-over l limits b L) (line-over l limits b (suc L)) (line-among l b L) i h (edgesOf l a))
+
+  free-low : (a : ℕ) (along : Bool) (i m : ℕ) → In m (freePlaces two a along i) → m < coarseCells two a
+  free-low a along i m h = all-in (free-all two a along i (omega (arith, n-some (coarse-limits l limits L) a, coarse-n two a))) m h .low
+
+  module _ (p : Position) (inside : Inside (fineGrid two) p) where
+    abbrev c : ℕ
+    c = p .component
+
+    own : Owner (fineLine two c) (coarseLine two c) (edgesOf l c) (placeOn p c)
+    own = owner-at c (placeOn p c) (omega (arith, place-inside inside c, fine-n two c))
+
+    -- the place m of a column on axis a; along the component, the cell that p lies in
+    abbrev placed : ℕ → ℕ → ℕ
+    placed a m = cond (isAlong p a) (own .cell) m
+
+    placed-free : (a i m : ℕ) → placeOn p a ≡ i → In m (freePlaces two a (isAlong p a) i) → In (placed a m) (freePlaces two a (isAlong p a) i)
+    unfolding isAlong walled
+    placed-free a i m e = go (eqb a c) (eqb-true a c)
+      where
+        there : a ≡ c → In (own .cell) (freePlaces two a true i)
+        there q =
+            rw (q, ← e, q) (in-free two c true (placeOn p c) (own .cell) refl refl (rw (axis-places-at l L c true (placeOn p c)) (own .takes)))
+
+        go : (b : Bool) → (b ≡ true → a ≡ c) → In m (freePlaces two a b i) → In (cond b (own .cell) m) (freePlaces two a b i)
+        go true q h = there (q refl)
+        go false q h = h
+
+    module _ (d : ℕ) (r : ReadFor two p d) where
+      abbrev column : Position
+      column = edgeAt p (placed 0 (r .i)) (placed 1 (r .j)) (placed 2 (r .k))
+
+      named : Named two p (indexOf (coarseGrid two) column)
+      named =
+          record {
+            i = placed 0 (r .i);
+            j = placed 1 (r .j);
+            k = placed 2 (r .k);
+            x = placed-free 0 (p .i) (r .i) (placeOn-0 p) (r .x);
+            y = placed-free 1 (p .j) (r .j) (placeOn-1 p) (r .y);
+            z = placed-free 2 (p .k) (r .k) (placeOn-2 p) (r .z);
+            is = refl;
+          }
+
+      column-inside : Inside (coarseGrid two) column
+      unfolding coarseGrid gridWith edgeAt named
+      column-inside =
+          record {
+            c-in = inside .c-in;
+            i-in = free-low 0 (isAlong p 0) (p .i) (named .i) (named .x);
+            j-in = free-low 1 (isAlong p 1) (p .j) (named .j) (named .y);
+            k-in = free-low 2 (isAlong p 2) (p .k) (named .k) (named .z);
+          }
+
+      column-place : placeOn column c ≡ own .cell
+      unfolding edgeAt isAlong
+      column-place = placeOn-is column c ∙ along-own c (own .cell) (r .i) (r .j) (r .k) (inside .c-in)
+
+      read-is : edgeAlong (fineGrid two) (onFine two column) (placeOn p c) ≡ d
+      unfolding edgeAlong onFine edgeAt readEdge readPlace isAlong
+      read-is = ap (indexOf (fineGrid two)) (moved-own (nodeOn two) p c (own .cell) (r .i) (r .j) (r .k) (inside .c-in)) ∙ sym (r .is)
+
+      in-cell : In d (cellEdges two column)
+      unfolding cellEdges edgesAlong edgeAt
+      in-cell =
+          let first : nodeOn two c (placeOn column c) ≤ placeOn p c = rw (column-place, node-is two c (own .cell)) (own .begins) in
+          let last : placeOn p c < nodeOn two c (placeOn column c + 1) = rw (column-place, node-is two c (own .cell + 1)) (own .ends) in
+          subst (λ (v : ℕ). In v (cellEdges two column)) read-is
+          (tabulate-in (edgeAlong (fineGrid two) (onFine two column)) (nodeOn two c (placeOn column c + 1) - nodeOn two c (placeOn column c)) (nodeOn two c (placeOn column c))
+          (placeOn p c) first (omega arith))
+
+  -- what row r reads of the fine level, the permittivity of one of its columns reads
+  pub reads-named : (r d : ℕ) → r < unknownsOf (fineGrid two) → In d (weightReads two r) → (c : ℕ) × In c (weightColumns two r) × In d (epsReads two c)
+  unfolding epsReads
+  reads-named r d b h =
+      let p = atOf (fineGrid two) r in
+      let i : Inside (fineGrid two) p = at-inside (fine-limits l limits L) r b in
+      let w : ReadFor two p d = read-for two p d (subst (In d) (reads-product two r) h) in
+      let q : Position = column p i d w in
+      let c : ℕ = indexOf (coarseGrid two) q in (
+        c,
+        subst (In c) (sym (columns-product two r)) (named-columns two p c (named p i d w)),
+        subst (In d) (ap (cellEdges two) (sym (at-index (coarse-limits l limits L) (column-inside p i d w)))) (in-cell p i d w),
+      )

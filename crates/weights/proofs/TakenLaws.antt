@@ -1,11 +1,12 @@
 -- Laws of the weights' definitions: which coarse values a place takes, the cells of two levels, the columns of a row by their places, and the slots of an axis.
 -- Assumes nothing.
-use Prim.Native.Nat.{ℕ, zero, suc, _+_, _-_, _*_, _/_, _%_, _<_}
+use Prim.Native.Nat.{ℕ, zero, suc, _+_, _-_, _*_, _/_, _%_, _<_, _≤_}
 use mathlib.Core.Path.{_≡_, refl, sym, ap, _∙_}
 use mathlib.Core.Logic.{inl, inr, ⊎-elim}
 use mathlib.Core.Bool.{Bool, true, false, _&&_, _||_, cond, false≢true}
 use mathlib.Core.List.{List, [], _∷_}
-use native.Mathlib.Decide.{ℕ-discrete}
+use native.Mathlib.Decide.{ℕ-discrete, decLt}
+use native.Mathlib.Numerals.{add-one}
 use native.Mathlib.Omega.{arith}
 use borrow.Author.Tests.{eq-eqb, ne-eqb, le-leb, lt-leb, lt-ltb}
 use lib.ListN.{length, getD}
@@ -16,10 +17,12 @@ use Rattle.lattice.specs.Lattice.{FullLattice, edgesOf, isWall}
 use Rattle.lattice.specs.Levels.{cellsAt}
 use Rattle.lattice.specs.Line.{placeOf}
 use Rattle.lattice.specs.Neighbours.{fixedAt}
+use Rattle.lattice.proofs.CurlLaws.{place-along, rises-most}
 use Rattle.lattice.proofs.Equations.{cellsAt-is}
 use Rattle.numbers.proofs.ElementLaws.{before-is}
-use Rattle.numbers.proofs.MemberLaws.{in-right, each-in, in-each}
-use Rattle.numbers.specs.Lists.{In}
+use Rattle.numbers.proofs.ListLaws.{rises-below}
+use Rattle.numbers.proofs.MemberLaws.{in-left, in-right, each-in, in-each}
+use Rattle.numbers.specs.Lists.{In, Rises}
 use Rattle.numbers.proofs.TabulateLaws.{length-tabulate, tabulate-at-0}
 use Rattle.weights.specs.declared.interpolate.Rule.the-variants.{Nearest, Between, Dropped}
 use Rattle.weights.specs.Interpolate.{valueAt, valuePlaces, upTo, meets, outside, ruleBy, ruleOf, lowSide, highSide, sidePlaces, rulePlaces, takenPlaces}
@@ -75,7 +78,7 @@ module _ (e : Edges) (vs : List ℕ) (p i : ℕ) (h : i < length vs) (before : (
   high = rw (lt-leb (length vs) i h) (inl refl)
 
   -- along the axis, the first value behind p: it is taken, whether p lies between it and the one before or before all values
-  pub next-taken : p < getD vs i 0 → In i (takenPlaces e vs true p)
+  next-taken : p < getD vs i 0 → In i (takenPlaces e vs true p)
   unfolding takenPlaces ruleOf ruleBy upTo
   next-taken v =
       rw (before-is (suc p) vs i (omega arith) (λ m b. omega (arith, before m b)) (λ b. v), unmet (ℕ-discrete i 0))
@@ -84,6 +87,65 @@ module _ (e : Edges) (vs : List ℕ) (p i : ℕ) (h : i < length vs) (before : (
       go : (b : Bool) → (b ≡ true → i ≡ 0) → In i (rulePlaces e (length vs) (cond b (cond true (Nearest (i - 1)) (Dropped i)) (Between i)))
       go true z = let y : i ≡ 0 = z refl in inl (omega arith)
       go false z = in-right i (sidePlaces (lowSide e (length vs) i)) (sidePlaces (highSide e (length vs) i)) high
+
+-- along the axis, the last value before p: it is taken, whether p lies between it and the next or behind all values
+last-taken : (e : Edges) (vs : List ℕ) (p i : ℕ) → i < length vs → ((m : ℕ) → m < suc i → getD vs m 0 < p) → (suc i < length vs → p < getD vs (suc i) 0)
+    → In i (takenPlaces e vs true p)
+unfolding takenPlaces ruleOf ruleBy meets upTo lowSide
+last-taken e vs p i h before next =
+    rw (before-is (suc p) vs (suc i) (omega arith) (λ m b. omega (arith, before m b)) next, le-leb 1 (suc i) (omega arith), here, ne-eqb (getD vs i 0) p apart)
+    (go (isWall e && outside (length vs) (suc i)))
+  where
+    here : suc i - 1 ≡ i
+    here = omega arith
+
+    apart : getD vs i 0 ≡ p → ⊥
+    apart q = omega (arith, before i (omega arith))
+
+    low : In i (sidePlaces (lowSide e (length vs) (suc i)))
+    low = rw (ne-eqb (suc i) 0 (λ q. omega arith), here) (inl refl)
+
+    go : (b : Bool) → In i (rulePlaces e (length vs) (cond b (cond true (Nearest i) (Dropped (suc i))) (Between (suc i))))
+    go true = inl refl
+    go false = in-left i (sidePlaces (lowSide e (length vs) (suc i))) (sidePlaces (highSide e (length vs) (suc i))) low
+
+-- ---- along the axis, a cell that lies in a cell of a line takes its value
+
+module _ (cs : List ℕ) (rises : Rises cs) (m : ℕ) (h : m < length cs - 1) (low high : ℕ) (up : low < high) (first : getD cs m 0 ≤ low) (last : high ≤ getD cs (m + 1) 0) where
+  -- the middle of the cell, and those of the line's cells
+  abbrev here : ℕ
+  here = (low + high) / 2
+
+  abbrev mid : ℕ → ℕ
+  mid k = (getD cs k 0 + getD cs (k + 1) 0) / 2
+
+  mid-at : (k : ℕ) → k < length cs - 1 → getD (valuePlaces cs true) k 0 ≡ mid k
+  mid-at k b = value-at cs true k b ∙ place-along cs k
+
+  -- it lies behind those of the cells before, and before the next one's
+  mid-before : (k : ℕ) → k < m → getD (valuePlaces cs true) k 0 < here
+  mid-before k b =
+      let u : getD cs k 0 < getD cs m 0 = rises-below cs rises k m b (omega arith) in
+      let v : getD cs (k + 1) 0 ≤ getD cs m 0 = rises-most cs rises (k + 1) m (omega arith) (omega arith) in
+      rw (mid-at k (omega arith)) (omega arith)
+
+  mid-behind : suc m < length (valuePlaces cs true) → here < getD (valuePlaces cs true) (suc m) 0
+  mid-behind b =
+      let n : length (valuePlaces cs true) ≡ length cs - 1 = values-long cs true in
+      let v : getD cs (m + 1) 0 < getD cs (m + 1 + 1) 0 = rises-below cs rises (m + 1) (m + 1 + 1) (omega arith) (omega arith) in
+      rw (← add-one m, mid-at (m + 1) (omega arith)) (omega arith)
+
+  mid-upto : (k : ℕ) → mid m < here → Dec (k ≡ m) → k < suc m → getD (valuePlaces cs true) k 0 < here
+  mid-upto k b (yes e) l = rw (e, mid-at m h) b
+  mid-upto k b (no e) l = mid-before k (omega arith)
+
+  pub cell-taken : (e : Edges) → In m (takenPlaces e (valuePlaces cs true) true here)
+  cell-taken e = go (values-long cs true) (ℕ-discrete here (mid m)) (decLt here (mid m))
+    where
+      go : length (valuePlaces cs true) ≡ length cs - 1 → Dec (here ≡ mid m) → Dec (here < mid m) → In m (takenPlaces e (valuePlaces cs true) true here)
+      go n (yes q) d = at-taken e (valuePlaces cs true) here m (omega arith) mid-before true (mid-at m h ∙ sym q) mid-behind
+      go n (no q) (yes d) = next-taken e (valuePlaces cs true) here m (omega arith) mid-before (rw (mid-at m h) d)
+      go n (no q) (no d) = last-taken e (valuePlaces cs true) here m (omega arith) (λ k b. mid-upto k (omega arith) (ℕ-discrete k m) b) mid-behind
 
 -- ---- the places of an axis that are not fixed
 

@@ -208,10 +208,6 @@ pub record RowLaid (s : Span) (ps ds ns : List ℕ) (xs eps values : List Float)
   pub numbers-are : values′ ≡ laidNumbers values at (numbersRow (s .fine) (s .coarse) (readFrom eps (s .feps)) (readFrom eps (s .ceps)) ps ds ns xs r)
   pub finite : b ≡ allFinite (numbersRow (s .fine) (s .coarse) (readFrom eps (s .feps)) (readFrom eps (s .ceps)) ps ds ns xs r)
 
--- the fine edges whose permittivities a row reads: the fine places of its entries, as places of the fine grid
-unfoldable pub readsRow : Grid3d → List ℕ → List ℕ → ℕ → List ℕ
-readsRow gf ds ns r = columnsRow gf gf ds ns r
-
 -- how many weights a row has, from the counts
 unfoldable pub countIn : List ℕ → Position → ℕ
 countIn ns p = getD ns (slotOn p 0 (p .i)) 0 * getD ns (slotOn p 1 (p .j)) 0 * getD ns (slotOn p 2 (p .k)) 0

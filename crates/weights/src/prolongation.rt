@@ -7,11 +7,11 @@ ghost use lib.ListN.{length, set};
 ghost use Rattle.numbers.specs.Places.{setNumber};
 ghost use Rattle.lattice.specs.Grid.{unknownsOf, Limits};
 ghost use Rattle.lattice.specs.Lattice.{fullLattice};
-ghost use Rattle.numbers.specs.Lists.{Laid, laid, laidNumbers, rows as rowsOf, allFinite, startOf, startsOf, repeats as repeatsIn, someRepeats, readFrom, sumTo};
+ghost use Rattle.numbers.specs.Lists.{Laid, laid, laidNumbers, rows as rowsOf, allFinite, startOf, startsOf, readFrom, sumTo};
 ghost use Rattle.weights.specs.TwoLevels.{twoOf, fineGrid, coarseGrid};
 ghost use Rattle.weights.specs.Prolongation.{weightColumns, weightNumbers};
 ghost use Rattle.weights.specs.Product.{rowWeights};
-ghost use Rattle.weights.specs.Tables.{Paired, PlacesOf, columnsRow, RoomFor, CountsOf, countedTo, axisCount, componentCount};
+ghost use Rattle.weights.specs.Tables.{Paired, RoomFor, CountsOf, countedTo, axisCount, componentCount};
 use crate::rows;
 use crate::rows::Span;
 use crate::tables;
@@ -147,46 +147,4 @@ pub fn count(l: Lattice, st: &[f64], fine: Three, coarse: Three) -> usize
     ensures { λ r. ⌜ r ≡ startOf (weightColumns (twoOf (fullLattice l (now (st .entry))) fine coarse)) (unknownsOf (fineGrid (twoOf (fullLattice l (now (st .entry))) fine coarse))) ⌝ }
 {
     count_rows(l, st, fine, coarse)
-}
-
-// ---- refusal 8
-
-// Whether the row of fine edge r names a coarse edge twice.
-fn row_repeats(gf: Grid3d, gc: Grid3d, ps: &[usize], ns: &[usize], r: usize) -> bool
-    requires { ⌜ (Limits gf) × (Limits gc) ⌝ }
-    requires { ⌜ PlacesOf gc (now ps) (now ns) ⌝ }
-    requires { ⌜ r < unknownsOf gf ⌝ }
-    ensures { λ b. ⌜ b ≡ repeatsIn (columnsRow gf gc (now (ps .entry)) (now (ns .entry)) r) ⌝ }
-{
-    let mut columns = [0usize; 8];
-    let n = rows::columns_at(gc, ps, ns, grid::at(gf, r), 0, &mut columns);
-    lists::repeats(&columns, n)
-}
-
-fn any_repeats(gf: Grid3d, gc: Grid3d, ps: &[usize], ns: &[usize]) -> bool
-    requires { ⌜ (Limits gf) × (Limits gc) ⌝ }
-    requires { ⌜ PlacesOf gc (now ps) (now ns) ⌝ }
-    ensures { λ b. ⌜ b ≡ someRepeats (columnsRow gf gc (now (ps .entry)) (now (ns .entry))) (unknownsOf gf) ⌝ }
-{
-    let n = grid::unknowns(gf);
-    for r in 0..n {
-        if row_repeats(gf, gc, ps, ns, r) {
-            return true;
-        }
-    }
-    false
-}
-
-// Whether some row names a coarse edge twice.
-pub fn names_twice(l: Lattice, st: &[f64], fine: Three, coarse: Three) -> bool
-    requires { ⌜ Paired (fullLattice l (now st)) fine coarse ⌝ }
-    ensures { λ b. ⌜ b ≡ someRepeats (weightColumns (twoOf (fullLattice l (now (st .entry))) fine coarse)) (unknownsOf (fineGrid (twoOf (fullLattice l (now (st .entry))) fine coarse))) ⌝ }
-{
-    let gf = tables::grid_of(l.grid, fine);
-    let gc = tables::grid_of(l.grid, coarse);
-    let fs = tables::value_places(fine);
-    let cs = tables::value_places(coarse);
-    let ns = tables::counts(l, st, gf, gc, &fs, &cs);
-    let ps = tables::places(l, st, gf, gc, &fs, &cs);
-    any_repeats(gf, gc, &ps, &ns)
 }

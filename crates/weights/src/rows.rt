@@ -8,8 +8,8 @@ ghost use Prim.Native.Nat.{ℕ, _+_, _-_, _*_, _<_, _≤_, _^_};
 ghost use lib.ListN.{length, getD, set};
 ghost use Rattle.numbers.specs.Places.{numberAt, setNumber};
 ghost use Rattle.lattice.specs.Grid.{nOf, unknownsOf, atOf, Limits, Inside};
-ghost use Rattle.numbers.specs.Lists.{Laid, laid, rows as rowsOf, startsOf, readFrom, anyFlag};
-ghost use Rattle.weights.specs.Tables.{slotOn, columnsInZ, columnsInY, columnsIn, weightIn, numbersInZ, numbersInY, numbersIn, PlacesOf, NodesOf, RoomOf, SpanOf, columnsRow, numbersRow, RowLaid, readsRow, countIn, allSlots, entryCount, entryDoubles};
+ghost use Rattle.numbers.specs.Lists.{Laid, laid, rows as rowsOf, startsOf, readFrom};
+ghost use Rattle.weights.specs.Tables.{slotOn, columnsInZ, columnsInY, columnsIn, weightIn, numbersInZ, numbersInY, numbersIn, PlacesOf, NodesOf, RoomOf, SpanOf, columnsRow, numbersRow, RowLaid, countIn, allSlots, entryCount, entryDoubles};
 use crate::tables;
 use lattice::grid;
 use lattice::grid::Grid3d;
@@ -290,18 +290,6 @@ pub fn weights_row(
 {
     let last = numbers_at(s, ps, ds, ns, xs, eps, grid::at(s.fine, r), at, values);
     lists::finite_numbers(values, at, last - at)
-}
-
-// Whether one of the fine edges whose permittivities the row of fine edge r reads is flagged. ds are the fine places of the entries.
-pub fn weights_flagged(gf: Grid3d, ds: &[usize], ns: &[usize], flags: &[bool], r: usize) -> bool
-    requires { ⌜ Limits gf ⌝ }
-    requires { ⌜ PlacesOf gf (now ds) (now ns) ⌝ }
-    requires { ⌜ r < unknownsOf gf ⌝ }
-    ensures { λ b. ⌜ b ≡ anyFlag (now (flags .entry)) (readsRow gf (now (ds .entry)) (now (ns .entry)) r) ⌝ }
-{
-    let mut edges = [0usize; 8];
-    let n = columns_at(gf, ds, ns, grid::at(gf, r), 0, &mut edges);
-    lists::any_flag(flags, &edges, 0, n)
 }
 
 // ---- all rows

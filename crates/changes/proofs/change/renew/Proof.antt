@@ -9,8 +9,8 @@ use Rattle.changes.proofs.change.renew.Reads as reads
 use Rattle.changes.proofs.change.renew.Lts as lts
 use Rattle.numbers.proofs.get.Reads as get-reads
 use Rattle.numbers.proofs.put.Reads as put-reads
-use Rattle.changes.proofs.guard.renew_or_restore.Reads as renew-or-restore-reads
-use Rattle.changes.proofs.reach.raise_flags.Reads as raise-flags-reads
+use Rattle.renew.proofs.guard.renew_or_restore.Reads as renew-or-restore-reads
+use Rattle.reach.proofs.hits.raise_flags.Reads as raise-flags-reads
 
 -- src/change.rt:120:9
 slice-aggregate-raise-flags : tie.Need-slice-aggregate-raise-flags

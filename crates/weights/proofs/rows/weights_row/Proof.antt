@@ -3,7 +3,7 @@
 use mathlib.Core.Path.{_∙_}
 use native.Mathlib.Omega.{arith}
 use Rattle.weights.proofs.RowLaws.{at-low}
-use Rattle.weights.proofs.RowReads.{row-is, row-room, row-finite, row-few}
+use Rattle.weights.proofs.RowNumbers.{row-is, row-room, row-finite, row-few}
 use borrow.Author.Needs.{needs}
 use Rattle.weights.proofs.rows.weights_row.Statement.{statement}
 use Rattle.weights.proofs.rows.weights_row.Tie as tie
