@@ -1,4 +1,4 @@
-# Sourced by run, faults, bench and stack: cuts the Rust, makes the static library, builds the driver.
+# Sourced by run, files, record, faults, bench and stack: cuts the Rust, makes the static library, builds the driver.
 # `source`: the checkout of the Rust. `driver`: the program that is built. `libs`: where the static library is.
 # FAULT: a planted fault of cut.py. OUR_LIBS: a folder that has libyonaduvi.a already.
 

@@ -3,7 +3,7 @@
 use Prim.Native.Nat.{ℕ, zero, suc}
 use mathlib.Core.Path.{_≡_, refl, sym, ap, _∙_}
 use mathlib.Core.Bool.{Bool, true, false, not, cond, false≢true}
-use mathlib.Core.List.{List}
+use mathlib.Core.List.{List, [], _∷_}
 use lib.ListN.{length, replicate}
 use lib.Ieee.{Float}
 use Rattle.numbers.specs.Lists.{laid}
@@ -25,7 +25,10 @@ use Rattle.store.specs.declared.Choice.{Choice}
 use Rattle.store.specs.declared.Choice.the-variants.{Galerkin, Rediscretized}
 use Rattle.store.specs.declared.needed.Needed.{Needed}
 use Rattle.store.specs.declared.setup.Answer.{Answer}
-use Rattle.yonaduvi.specs.Exports.{latticeFrom, choiceOf, inputFrom, answered, untouched, listLeft, CallLeft, needsWords, cellsWords, NeedsLeft}
+use Rattle.programs.specs.Reading.{Machine, machine, fresh, fedAll, finished}
+use Rattle.programs.specs.declared.reader.Reader.{Reader}
+use Rattle.programs.specs.declared.reader.Told.{Told}
+use Rattle.yonaduvi.specs.Exports.{latticeFrom, choiceOf, inputFrom, answered, untouched, listLeft, CallLeft, ReadLeft, needsWords, cellsWords, NeedsLeft}
 
 -- ---- the choice by its number
 
@@ -102,3 +105,18 @@ module _ (cells : List ℕ) (scalars xn xh yn yh zn zh : List Float) (choice : �
             needs-left = n ∙ (λ i. listLeft (v i) needs (p i)) ∙ left-of (neededVerdict own) needsWords needs (r .needs) (needsOf (fullOf own) (own .choice) (transfersOf own)) noNeeds (found .needs-are);
             counts-left = c ∙ (λ i. listLeft (v i) counts (w i)) ∙ left-of (neededVerdict own) cellsWords counts (r .cells) (cellsOf (fullOf own) (transfersOf own)) noCells (found .cells-are);
           }
+
+-- ---- a file
+
+-- z: the reader at its start; r: behind the last byte; t: what it answers
+pub read-left : (limit : ℕ) (bytes out : List ℕ) (held : List Float) (s : Store) {out′ : List ℕ} {held′ : List Float} {s′ : Store} {z r : Reader} {t : Told} → z ≡ fresh
+    → machine r held′ s′ ≡ fedAll limit (machine z held s) bytes → t ≡ finished r → out′ ≡ laid out 0 (t .number ∷ (t .place ∷ []))
+    → ReadLeft (fedAll limit (machine fresh held s) bytes) out out′ held′ s′
+read-left limit bytes out held s {out′} {held′} {s′} {z} {r} {t} e f g h =
+    let m : machine r held′ s′ ≡ fedAll limit (machine fresh held s) bytes = f ∙ ap (λ (u : Reader). fedAll limit (machine u held s) bytes) e in
+    let a : t ≡ finished (fedAll limit (machine fresh held s) bytes .reader) = g ∙ ap (λ (k : Machine). finished (k .reader)) m in
+    record {
+      answer-left = h ∙ ap (λ (u : Told). laid out 0 (u .number ∷ (u .place ∷ []))) a;
+      held-left = ap (λ (k : Machine). k .held) m;
+      store-left = ap (λ (k : Machine). k .store) m;
+    }

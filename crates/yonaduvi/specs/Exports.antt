@@ -25,6 +25,7 @@ use Rattle.store.specs.declared.handed.Cells.{Cells}
 use Rattle.store.specs.declared.handed.Span.{Span}
 use Rattle.store.specs.declared.handed.Span.the-variants.{At, Nowhere}
 use Rattle.store.specs.declared.needs.Needs.{Needs}
+use Rattle.programs.specs.Reading.{Machine, finished}
 
 -- ---- the input
 
@@ -97,6 +98,13 @@ listLeft (refused number place) xs vs = cond (ltb number 5) xs (replicate (lengt
 pub record CallLeft (r : Result) (out out′ : List ℕ) (s′ : Store) : Type 0 where
   pub answer-left : out′ ≡ answered (r .verdict) out
   pub store-left : s′ ≡ r .store
+
+-- ---- a file: number and place of what its reading answers, the numbers held, and the lists; m is the machine behind the last byte
+
+pub record ReadLeft (m : Machine) (out out′ : List ℕ) (held′ : List Float) (s′ : Store) : Type 0 where
+  pub answer-left : out′ ≡ laid out 0 (finished (m .reader) .number ∷ (finished (m .reader) .place ∷ []))
+  pub held-left : held′ ≡ m .held
+  pub store-left : s′ ≡ m .store
 
 -- ---- what a setup needs
 

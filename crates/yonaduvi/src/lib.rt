@@ -1,4 +1,4 @@
-// The calls for C and Rust: a setup, a change, what a setup needs, and where its rows stand. They ask nothing of their caller but that each pointer is good for its
+// The calls for C and Rust: a setup, a change, a file, what a setup needs, and where its rows stand. They ask nothing of their caller but that each pointer is good for its
 // length: bad input gets its refusal, and what would lie past the end of a result list is left out.
 
 ghost use mathlib.Core.Path.{_≡_};
@@ -10,9 +10,12 @@ ghost use Rattle.store.specs.Setup.{setupOf};
 ghost use Rattle.store.specs.Calls.{changeOf};
 ghost use Rattle.store.specs.ChangeSteps.{changeTo};
 ghost use Rattle.store.specs.Handed.{weightTerms, operatorRow};
-ghost use Rattle.yonaduvi.specs.Exports.{inputFrom, CallLeft, NeedsLeft, cellsFrom, isTurned, spanned};
+ghost use Rattle.programs.specs.Reading.{machine, fresh, fedAll};
+ghost use Rattle.yonaduvi.specs.Exports.{inputFrom, CallLeft, ReadLeft, NeedsLeft, cellsFrom, isTurned, spanned};
 use changes::change;
 use numbers::C64;
+use programs::feed;
+use programs::reader;
 use store::handed;
 use store::needed;
 use store::setup;
@@ -149,6 +152,52 @@ pub extern "C" fn yonaduvi_change(
         scaling,
     );
     answers::changed(a, out);
+}
+
+// A file (docs/SPECIFICATION.md, 13): reads its bytes, sets the levels up and changes them as the records say. `limit`: the most cells that are taken. `held`: what
+// holds the numbers of the input between the records. In `out` number and place of the refusal that ended the reading, or 0 and the level count.
+#[no_mangle]
+pub extern "C" fn yonaduvi_read(
+    bytes: &[u8],
+    limit: usize,
+    held: &mut [f64],
+    out: &mut [usize],
+    ends: &mut [usize],
+    eps: &mut [f64],
+    starts: &mut [usize],
+    columns: &mut [usize],
+    values: &mut [f64],
+    tstarts: &mut [usize],
+    tcolumns: &mut [usize],
+    tvalues: &mut [f64],
+    ostarts: &mut [usize],
+    ocolumns: &mut [usize],
+    ovalues: &mut [f64],
+    scaling: &mut [f64],
+)
+    ensures { λ _. ⌜ ReadLeft (fedAll limit (machine fresh (now (held .entry)) (lent (now (ends .entry)) (now (eps .entry)) (now (starts .entry)) (now (columns .entry)) (now (values .entry)) (now (tstarts .entry)) (now (tcolumns .entry)) (now (tvalues .entry)) (now (ostarts .entry)) (now (ocolumns .entry)) (now (ovalues .entry)) (now (scaling .entry))))
+        (now (bytes .entry))) (now (out .entry)) (now (out .exit)) (now (held .exit)) (lent (now (ends .exit)) (now (eps .exit)) (now (starts .exit)) (now (columns .exit)) (now (values .exit)) (now (tstarts .exit)) (now (tcolumns .exit)) (now (tvalues .exit)) (now (ostarts .exit)) (now (ocolumns .exit)) (now (ovalues .exit)) (now (scaling .exit))) ⌝ }
+{
+    let r = feed::feed(
+        reader::fresh(),
+        limit,
+        bytes,
+        held,
+        ends,
+        eps,
+        starts,
+        columns,
+        values,
+        tstarts,
+        tcolumns,
+        tvalues,
+        ostarts,
+        ocolumns,
+        ovalues,
+        scaling,
+    );
+    let t = reader::finish(r);
+    answers::put_two(out, t.number, t.place);
 }
 
 // What such a setup needs: in `out` refusals 1 to 4 (of everything but the permittivities), 5 and 8, or 0 and the level count; in `needs` the places of

@@ -2,15 +2,18 @@
 //
 //     differential [SEED [LATTICES [PART/PARTS]]]     every PARTSth lattice, from PART on (1 to PARTS)
 //     differential faults [SEED [LATTICES]]           few lattices, in an order that soon notices a fault; no smaller input is looked for
+//     differential files [SEED [COUNT]]               setup files, whole and damaged, against a second reader
 //     differential bench NAME CELLS CHOICE [EDGE]
 //     differential stack
 //     differential record FOLDER                      the calls of the test program, and what they must answer
+//     differential record-files FOLDER                the same of the test program that reads setup files
 
 mod bench;
 mod book;
 mod case;
 mod changes;
 mod compare;
+mod files;
 mod generate;
 mod handed;
 mod lent;
@@ -432,6 +435,8 @@ fn main() {
         Some("bench") => bench::run(&args[1..]),
         Some("stack") => stack::run(),
         Some("record") => record::write(args.get(1).map_or(".", |a| a.as_str())),
+        Some("record-files") => files::record::write(args.get(1).map_or(".", |a| a.as_str())),
+        Some("files") => files::run(&args[1..]),
         Some("faults") => run(&args[1..], true),
         _ => run(&args, false),
     };

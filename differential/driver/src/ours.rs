@@ -62,6 +62,18 @@ unsafe extern "C" {
         level: usize, row: usize,
         out: *mut usize, out_len: usize,
     );
+    fn yonaduvi_read(
+        bytes: *const u8, bytes_len: usize, limit: usize, held: *mut f64, held_len: usize,
+        out: *mut usize, out_len: usize,
+        ends: *mut usize, ends_len: usize, eps: *mut f64, eps_len: usize,
+        starts: *mut usize, starts_len: usize, columns: *mut usize, columns_len: usize,
+        values: *mut f64, values_len: usize,
+        tstarts: *mut usize, tstarts_len: usize, tcolumns: *mut usize, tcolumns_len: usize,
+        tvalues: *mut f64, tvalues_len: usize,
+        ostarts: *mut usize, ostarts_len: usize, ocolumns: *mut usize, ocolumns_len: usize,
+        ovalues: *mut f64, ovalues_len: usize,
+        scaling: *mut f64, scaling_len: usize,
+    );
 }
 
 // Calls a function with the input that a setup, a change and the needs begin with, then further arguments.
@@ -126,6 +138,23 @@ pub fn change(c: &Case, choice: usize, edge: usize, value: c64, s: &mut Store) {
         os.as_ptr(), os.len() - BEHIND, oc.as_ptr(), oc.len() - BEHIND, ov.as_mut_ptr(), ov.len() - BEHIND,
         scaling.as_mut_ptr(), scaling.len() - BEHIND
     )
+}
+
+// A setup file, all of it in memory. `limit`: the most cells that are taken. `held`: what holds the numbers of the input, with BEHIND places more than are lent.
+pub fn read(file: &[u8], limit: usize, held: &mut [f64], s: &mut Store) {
+    let [ends, fs, fc, ts, tc, os, oc] = &mut s.words;
+    let [eps, fv, tv, ov, scaling] = &mut s.doubles;
+    // SAFETY: as above.
+    unsafe {
+        yonaduvi_read(
+            file.as_ptr(), file.len(), limit, held.as_mut_ptr(), held.len() - BEHIND, s.out.as_mut_ptr(), s.out.len() - BEHIND,
+            ends.as_mut_ptr(), ends.len() - BEHIND, eps.as_mut_ptr(), eps.len() - BEHIND,
+            fs.as_mut_ptr(), fs.len() - BEHIND, fc.as_mut_ptr(), fc.len() - BEHIND, fv.as_mut_ptr(), fv.len() - BEHIND,
+            ts.as_mut_ptr(), ts.len() - BEHIND, tc.as_mut_ptr(), tc.len() - BEHIND, tv.as_mut_ptr(), tv.len() - BEHIND,
+            os.as_mut_ptr(), os.len() - BEHIND, oc.as_mut_ptr(), oc.len() - BEHIND, ov.as_mut_ptr(), ov.len() - BEHIND,
+            scaling.as_mut_ptr(), scaling.len() - BEHIND,
+        )
+    }
 }
 
 // What a setup needs, in three lists: the answer, the places of the twelve lists, the levels' cells. Each has BEHIND places more than are lent.

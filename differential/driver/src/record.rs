@@ -13,7 +13,7 @@ use source::{Coarse, Level, Multigrid};
 use std::fmt::Write;
 
 // What stands in every lent place before a call, as a word and as the bits of a double.
-const MARK: u64 = 0xc0de_c0de_c0de_c0de;
+pub const MARK: u64 = 0xc0de_c0de_c0de_c0de;
 
 // The rows of a level that are asked for.
 const ROWS: usize = 200;
@@ -60,11 +60,11 @@ fn runs(values: &[u64], shown: impl Fn(u64) -> String) -> String {
     out
 }
 
-fn mixed(d: u64, x: u64) -> u64 {
+pub fn mixed(d: u64, x: u64) -> u64 {
     d.rotate_left(7).wrapping_add(x)
 }
 
-fn digest(first: u64, values: &[u64]) -> u64 {
+pub fn digest(first: u64, values: &[u64]) -> u64 {
     values.iter().fold(mixed(first, values.len() as u64), |d, &v| mixed(d, v))
 }
 
@@ -72,7 +72,7 @@ fn in_decimal(values: &[usize]) -> String {
     runs(&values.iter().map(|&v| v as u64).collect::<Vec<_>>(), |v| v.to_string())
 }
 
-fn laid(numbers: &[c64]) -> Vec<u64> {
+pub fn laid(numbers: &[c64]) -> Vec<u64> {
     numbers.iter().flat_map(|z| [bits(z.re), bits(z.im)]).collect()
 }
 
@@ -287,7 +287,7 @@ fn grown(n: usize, re: f64, up: f64, side: f64) -> Vec<f64> {
 }
 
 // Kinds by a number: 0 Bloch with p = 1, 1 walls, 2 a wall on x, 3 phases, 4 phases and a wall on y. Stretches that grow, and permittivities.
-fn small(cells: [usize; 3], kinds: usize, up: f64, side: f64) -> Case {
+pub fn small(cells: [usize; 3], kinds: usize, up: f64, side: f64) -> Case {
     let mut c = Case::plain(cells);
     for axis in 0..3 {
         c.set_kind(axis, [[true; 3], [false; 3], [false, true, true], [true; 3], [true, false, true]][kinds][axis]);
@@ -321,7 +321,7 @@ fn sole(cells: [usize; 3], walls: usize, shift: f64) -> Case {
 }
 
 // Cells along x of stretch 1.5, 1.5, 3, 6, 12, ..: each level joins one pair.
-fn doubling(n: usize, coarsest: usize) -> Case {
+pub fn doubling(n: usize, coarsest: usize) -> Case {
     let mut c = mixed_kinds([n, 1, 1]);
     for m in 0..n {
         c.set_number(1, m, c64::new(1.5 * 2f64.powi(m.saturating_sub(1) as i32), 0.0));

@@ -1,0 +1,4 @@
+pub mod LineLaws
+pub mod MachineLaws
+pub mod Pieces
+pub mod ReadingLaws
