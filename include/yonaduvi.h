@@ -12,8 +12,8 @@
 
    THREADS. No call has state: calls may run at once as long as no list that one of them writes is lent to another.
 
-   STACK. Local lists stand on the caller's stack: a setup takes up to 0.7 MB. A change takes some 1.01 MB and 4.8 KB more for every 256 numbers in
-   the rows that it reaches; the most measured is 2.2 MB. A thread with 1 MB has room for a setup; give one that makes changes, or reads files,
+   STACK. Local lists stand on the caller's stack: a setup takes up to 0.7 MB. A change takes some 1.0 MB and 4.8 KB more for every 256 numbers in
+   the rows that it reaches; the most measured is 2.1 MB. A thread with 1 MB has room for a setup; give one that makes changes, or reads files,
    4 MB. */
 
 #ifndef YONADUVI_H
