@@ -13,6 +13,8 @@
 //   bits A B        with each bit turned of the bytes from A to B - 1
 //   grow A B        with A to B - 1 places lent of each list
 //   hold A B        with A to B - 1 doubles lent to hold the numbers
+
+#![tactic(auto)]
 mod reading;
 mod show;
 mod sweeps;

@@ -5,7 +5,7 @@ use programs::reader::{Reader, Told};
 use programs::{feed, reader};
 
 // What a reading answers, and a digest of what it leaves in the twelve lists.
-#[derive(Drop)]
+#[derive(Clone, Copy)]
 pub struct Outcome {
     pub number: usize,
     pub place: usize,

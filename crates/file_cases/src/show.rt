@@ -72,7 +72,7 @@ pub fn same(a: Outcome, b: Outcome) -> bool {
 }
 
 // Equal answers one behind another, how many, and a digest of what all readings so far left.
-#[derive(Drop)]
+#[derive(Clone, Copy)]
 pub struct Run {
     pub number: usize,
     pub place: usize,

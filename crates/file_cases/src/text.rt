@@ -15,7 +15,7 @@ pub const COUNT: usize = 7;
 pub const ARGUMENTS: usize = 8;
 
 // A word and the place behind it; or that there is none.
-#[derive(Drop)]
+#[derive(Clone, Copy)]
 pub struct Word {
     pub found: bool,
     pub value: u64,
@@ -85,7 +85,7 @@ pub fn byte(line: &[u8], k: usize) -> u8 {
 }
 
 // The bytes of a line, and whether the input ended in it.
-#[derive(Drop)]
+#[derive(Clone, Copy)]
 pub struct Read {
     pub bytes: usize,
     pub ended: bool,
@@ -169,7 +169,7 @@ pub fn lend(words: &mut [usize]) {
 
 // Where the bytes of a line's words are laid: the next place, the place of the word's first byte, how many times it stands there, what its digits say so far, and
 // whether a byte lacks its second digit.
-#[derive(Drop)]
+#[derive(Clone, Copy)]
 struct Laying {
     at: usize,
     from: usize,

@@ -115,6 +115,7 @@ module _ (l : FullLattice) where
 
   pub in_free : (c : ℕ) (cs : List ℕ) → In c cs → is_fixed l c ≡ false → In c (free_of l cs)
   unfolding free_of
+  in_free c [] i h = elim i [ ]
   in_free c (d ∷ cs) i h = go (is_fixed l d) refl i (λ j. in_free c cs j h)
     where
       go : (b : Bool) → is_fixed l d ≡ b → (c ≡ d) ⊎ In c cs → (In c cs → In c (free_of l cs)) → In c (cond b (free_of l cs) (d ∷ free_of l cs))

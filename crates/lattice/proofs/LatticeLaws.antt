@@ -14,7 +14,7 @@ use Rattle.numbers.specs.Complex.{zero_number, no_number}
 use Rattle.numbers.specs.Places.{places, number_at, set_number, found_at}
 use Rattle.numbers.proofs.Laws.{length_set_number, number_same, number_other, found_held}
 use Rattle.lattice.specs.Grid.{axis3, n_of}
-use Rattle.lattice.specs.Lattice.{FullLattice, full_lattice, nodes_at, halves_at, half_no, stretch_at, lattice_of, Lengths, LaidStretches}
+use Rattle.lattice.specs.Lattice.{full_lattice, nodes_at, halves_at, half_no, stretch_at, lattice_of, Lengths, LaidStretches}
 use Rattle.lattice.specs.declared.lattice.Lattice.{Lattice}
 use Rattle.lattice.specs.declared.grid.Grid3d.{Grid3d}
 use Rattle.lattice.proofs.GridLaws.{axis_first, axis_second, axis_third}

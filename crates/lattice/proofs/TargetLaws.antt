@@ -1,9 +1,8 @@
 -- The target of a level is exact: 3 2^L for each of the 12 levels, and its square 9 4^L, so that the joining test compares with the square itself.
 -- Assumes nothing.
-use Prim.Native.Nat.{ℕ, zero, suc, ◌*◌, ◌^◌, ◌≤◌, ◌<◌}
-use mathlib.Core.Path.{◌≡◌, refl}
+use Prim.Native.Nat.{ℕ, ◌*◌, ◌^◌, ◌≤◌, ◌<◌}
+use mathlib.Core.Path.{◌≡◌}
 use mathlib.Core.Bool.{false}
-use mathlib.Core.List.{List, ◌∷◌}
 use native.Mathlib.Nat.{le_trans, mul-le-mul_left, pow-le-pow_right}
 use native.Mathlib.Omega.{arith}
 use lib.Dec.{lit≤}
@@ -14,7 +13,6 @@ use lib.Ieee.Back.{round_whole}
 use Rattle.numbers.specs.Complex.{mul_f}
 use Rattle.numbers.specs.Lists.{tabulate}
 use Rattle.lattice.specs.Levels.{target}
-use Rattle.numbers.proofs.Equations.{tabulate_suc, tabulate_zero}
 use Rattle.numbers.proofs.TabulateLaws.{tabulated, tabulate_twelve}
 
 -- ---- the target and its square

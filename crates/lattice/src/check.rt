@@ -11,7 +11,7 @@ use crate::lattice::{Edges, Lattice};
 use numbers::C64;
 
 // What the checks say: sound, or what is refused and where (docs/SPECIFICATION.md, 5, has the numbers).
-#[derive(Drop)]
+#[derive(Clone, Copy)]
 pub enum Checked {
     Sound,
     Cells(usize),

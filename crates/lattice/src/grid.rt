@@ -3,7 +3,7 @@
 ghost use Rattle.std.specs.Prelude.{◌≡◌};
 ghost use Rattle.lattice.specs.Grid.{n_of, step_of, cells_of, unknowns_of, place_on, moved_to, with_component, index_of, at_of, next_axis, last_axis, Limits, Inside};
 
-#[derive(Drop)]
+#[derive(Clone, Copy)]
 pub struct Grid3d {
     pub nx: usize,
     pub ny: usize,
@@ -14,7 +14,7 @@ pub struct Grid3d {
 }
 
 // A component of a field and its place (i, j, k).
-#[derive(Drop)]
+#[derive(Clone, Copy)]
 pub struct Position {
     pub component: usize,
     pub i: usize,

@@ -11,7 +11,7 @@ use numbers::C64;
 pub const STRETCH_DOUBLES: usize = 768;
 
 // What lies across the ends of an axis: a wall behind an absorber (`Pml`), or the next period, which has the phase p (`Bloch`).
-#[derive(Drop)]
+#[derive(Clone, Copy)]
 pub enum Edges {
     Pml,
     Bloch(C64),
@@ -19,7 +19,7 @@ pub enum Edges {
 
 // The lattice record: the setup's input without its lists. Beside it goes the list of stretches `st`, 384 numbers: axis a has its stretch at node m at
 // 64 a + m, and the one half a step after that node at 192 + 64 a + m.
-#[derive(Drop)]
+#[derive(Clone, Copy)]
 pub struct Lattice {
     pub grid: Grid3d,
     pub x: Edges,

@@ -13,14 +13,14 @@ use crate::{check, lattice, line, stretched};
 use numbers::C64;
 
 // How many levels the loop makes: at most 12.
-#[derive(Drop)]
+#[derive(Clone, Copy)]
 pub enum Depth {
     Levels(usize),
     TooMany,
 }
 
 // The lines of one level.
-#[derive(Drop)]
+#[derive(Clone, Copy)]
 pub struct Three {
     pub x: Line,
     pub y: Line,
@@ -28,7 +28,7 @@ pub struct Three {
 }
 
 // The maps across the three axes.
-#[derive(Drop)]
+#[derive(Clone, Copy)]
 pub struct Maps {
     pub x: [C64; 129],
     pub y: [C64; 129],
@@ -36,21 +36,21 @@ pub struct Maps {
 }
 
 // The lines of all levels: that of axis a on level L is number 3 L + a. Beyond the levels, and after a refusal, lines of no cells.
-#[derive(Drop)]
+#[derive(Clone, Copy)]
 pub struct Lines {
     pub depth: Depth,
     pub lines: [Line; 36],
 }
 
 // What the levels' lines are answered with: the level count, or what is refused.
-#[derive(Drop)]
+#[derive(Clone, Copy)]
 pub enum Answer {
     Levels(usize),
     Refused(Checked),
     TooMany,
 }
 
-#[derive(Drop)]
+#[derive(Clone, Copy)]
 pub struct LevelLines {
     pub answer: Answer,
     pub lines: [Line; 36],

@@ -1,6 +1,8 @@
 // The lattice: its grid and axis kinds, the checks of the setup's input, the levels' lines, and the lattice rows.
 // Each module here has its definitions in the file of specs/ with the same name.
 
+#![tactic(auto)]
+
 pub mod check;
 pub mod curls;
 pub mod grid;

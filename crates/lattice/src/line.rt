@@ -7,7 +7,7 @@ ghost use Rattle.numbers.specs.Lists.{before as beforeOf, Rises};
 use numbers::C64;
 
 // A line of `cells` cells: its ends, one more than the cells, then zeros.
-#[derive(Drop)]
+#[derive(Clone, Copy)]
 pub struct Line {
     pub cells: usize,
     pub ends: [usize; 65],

@@ -11,7 +11,7 @@ use crate::{grid, lattice};
 use numbers::C64;
 
 // Where a step leads: to a place or an edge, with the factor that the field takes on the way; or beyond a wall, where nothing is.
-#[derive(Drop)]
+#[derive(Clone, Copy)]
 pub enum Arrival {
     To(usize, C64),
     Beyond,

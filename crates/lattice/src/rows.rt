@@ -138,7 +138,7 @@ pub fn curl_curl_into(
 // ---- the permittivity at a node
 
 // A sum of permittivities, and how many they are.
-#[derive(Drop)]
+#[derive(Clone, Copy)]
 pub struct Sum {
     pub total: C64,
     pub count: usize,

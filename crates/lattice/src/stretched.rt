@@ -10,7 +10,7 @@ use crate::{grid, lattice};
 use numbers::{C64, lists};
 
 // An axis has two maps: `across` adds up the cells' stretches and places the components across the axis, `along` adds up the nodes' and places the component along it.
-#[derive(Drop)]
+#[derive(Clone, Copy)]
 pub struct Stretched {
     pub across: [C64; 129],
     pub along: [C64; 129],

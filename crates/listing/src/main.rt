@@ -1,4 +1,6 @@
 // Reads a file on standard input and prints a line for each of its levels, or only the refusal that ends it.
+
+#![tactic(auto)]
 ghost use Rattle.std.specs.Prelude.{◌<◌, ◌≤◌};
 
 use libc::{STDIN_FILENO, STDOUT_FILENO};
@@ -76,7 +78,7 @@ fn show(r: Reader, held: &[f64], starts: &[usize]) {
 
 // ---- reading
 
-#[derive(Drop)]
+#[derive(Clone, Copy)]
 struct Turn {
     reader: Reader,
     go_on: bool,

@@ -1,23 +1,17 @@
 -- Loops that lay values and rows of terms one after another, and what is laid over a part of a list.
 -- Assumes nothing.
-use Prim.Native.Nat.{ℕ, zero, suc, ◌+◌, ◌-◌, ◌*◌, ◌/◌, ◌<◌, ◌≤◌, suc-le-suc, min}
-use native.Mathlib.Nat.{le_of_suc-le-suc, not-suc-le-zero}
+use Prim.Native.Nat.{ℕ, zero, suc, ◌+◌, ◌-◌, ◌*◌, ◌/◌, ◌<◌, ◌≤◌, min}
 use native.Mathlib.Numerals.{add-one}
 use native.Mathlib.Decide.{dec_lt}
 use native.Mathlib.Omega.{arith}
 use mathlib.Core.Path.{◌≡◌, refl, sym, ◌∙◌, ap}
-use mathlib.Core.Logic.{inl, ⊎_elim}
-use mathlib.Core.Bool.{Bool, true, false, cond}
-use mathlib.Core.List.{List, [], ◌∷◌, ◌++◌, append-nil, Memᴰ}
-use borrow.Author.Tests.{ltb-true, lt-ltb, le-ltb}
-use lib.Dec.{ltb}
+use mathlib.Core.List.{List, [], ◌∷◌, ◌++◌, append-nil}
 use lib.ListN.{length, get_or, set, take, drop, length-drop, drop_of_length-le}
 use lib.Seq.{take-suc, take_all, drop-length}
 use lib.Ieee.{Float}
 use Rattle.numbers.specs.declared.C64.{C64}
-use Rattle.numbers.specs.Complex.{sum}
 use Rattle.numbers.specs.Places.{set_number}
-use Rattle.numbers.specs.Lists.{In, tabulate, each, rows, laid_by, laid, laid_numbers, Laid, start_of, starts_of, before, summed, Rises}
+use Rattle.numbers.specs.Lists.{tabulate, rows, laid_by, laid, laid_numbers, Laid, start_of, starts_of}
 use Rattle.numbers.specs.Terms.{Term, columns_of, numbers_of, Wrote, LaidRows}
 use Rattle.numbers.proofs.Laws.{set_inside, set_outside}
 use Rattle.numbers.proofs.ListLaws.{laid_none, laid_append, rows_most, tabulate_more}

@@ -65,6 +65,7 @@ pub record Flagged (fs : List Bool) (cs : List ℕ) : Type 0 where
 
 pub flagged_any : (fs : List Bool) (cs : List ℕ) (c : ℕ) → In c cs → get_or fs c false ≡ true → any_flag fs cs ≡ true
 unfolding any_flag
+flagged_any fs [] c x'' h = elim x'' [ ]
 flagged_any fs (d ∷ ds) c (inl e) h = or_left (any_flag fs ds) (rw e at h)
 flagged_any fs (d ∷ ds) c (inr i) h = or_right (get_or fs d false) (flagged_any fs ds c i h)
 

@@ -1,27 +1,25 @@
 -- Laws of lists of numbers and of rows of terms: the columns of collected rows, terms that keep their columns, lists that rise, numbers that are read.
 -- Assumes nothing.
-use Prim.Native.Nat.{ℕ, zero, suc, ◌-◌, ◌*◌, ◌+◌, ◌<◌, ◌≤◌}
+use Prim.Native.Nat.{ℕ, zero, suc, ◌-◌, ◌*◌, ◌+◌, ◌<◌}
 use mathlib.Core.Path.{◌≡◌, refl, sym, ap, ◌∙◌}
 use mathlib.Core.Logic.{◌⊎◌, inl, inr, ⊎_elim}
-use mathlib.Core.Bool.{Bool, true, false, ◌||◌, ◌&&◌, and_assoc, or_assoc}
+use mathlib.Core.Bool.{true, ◌||◌, ◌&&◌, and_assoc}
 use mathlib.Core.List.{List, [], ◌∷◌, ◌++◌}
 use native.Mathlib.Omega.{arith}
 use native.Mathlib.Nat.{le_refl}
 use borrow.Author.Tests.{eq-eqb, eqb-true}
 use lib.Dec.{eqb}
-use lib.ListN.{length, get_or, take, drop, length-drop}
-use lib.Seq.{get_or-drop, get_or-take, take_all, drop-cons, drop-length, length-take-le}
+use lib.ListN.{length, take, drop, length-drop}
+use lib.Seq.{get_or-drop, take_all}
 use lib.Ieee.{Float}
 use Rattle.numbers.specs.declared.C64.{C64}
 use Rattle.numbers.specs.Complex.{finite}
 use Rattle.numbers.specs.Places.{number_at}
-use Rattle.numbers.specs.Lists.{In, Rises, tabulate, each, rows, places_in, all_finite, read_from, contains}
+use Rattle.numbers.specs.Lists.{In, Rises, tabulate, each, places_in, all_finite, read_from, contains}
 use Rattle.numbers.specs.Terms.{Term, columns_of, numbers_of, terms_in}
 use Rattle.numbers.specs.Collect.{inserted, collected}
-use Rattle.numbers.proofs.Laws.{parts, either_of, or_left, or_right, or_true, or_false}
+use Rattle.numbers.proofs.Laws.{parts, either_of, or_left, or_right}
 use Rattle.numbers.proofs.EachLaws.{columns_append}
-use Rattle.numbers.proofs.LoopLaws.{columns_one}
-use Rattle.numbers.proofs.ListLaws.{tabulate_more}
 use Rattle.numbers.proofs.TermLaws.{Holds}
 use Rattle.numbers.proofs.MemberLaws.{Span, contains_in, in_contains}
 use Rattle.numbers.proofs.CollectLaws.{inserted_columns_same, collected_columns_same, From, none, more}

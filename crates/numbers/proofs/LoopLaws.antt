@@ -19,7 +19,7 @@ use Rattle.numbers.proofs.ListLaws.{through, rows_length, tabulate_more}
 use Rattle.numbers.proofs.TermLaws.{each_append, each_one}
 use Rattle.numbers.specs.Terms.{Term, columns_of, numbers_of}
 use Rattle.numbers.proofs.Equations.{rows_zero}
-use Rattle.numbers.proofs.EachLaws.{numbers_append, sieved, All, none, more, all_append}
+use Rattle.numbers.proofs.EachLaws.{numbers_append, sieved, All, none, all_append}
 
 -- ---- a loop from k to n: what is left of a tabulated list
 

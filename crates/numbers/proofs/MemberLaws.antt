@@ -3,7 +3,7 @@
 use Prim.Native.Nat.{ℕ, zero, suc, ◌+◌, ◌*◌, ◌<◌, ◌≤◌}
 use mathlib.Core.Path.{◌≡◌, refl, sym, subst}
 use mathlib.Core.Logic.{◌⊎◌, inl, inr, ⊎_elim}
-use mathlib.Core.Bool.{true, false≢true, ◌||◌}
+use mathlib.Core.Bool.{true, false≢true}
 use mathlib.Core.List.{List, [], ◌∷◌, ◌++◌}
 use native.Mathlib.Omega.{arith}
 use native.Mathlib.Decide.{ℕ_discrete}
@@ -13,7 +13,7 @@ use lib.Dec.{eqb}
 use Rattle.numbers.specs.Lists.{In, each, rows, contains}
 use Rattle.numbers.specs.Terms.{Term, columns_of}
 use Rattle.numbers.proofs.Laws.{either_of, or_left, or_right}
-use Rattle.numbers.proofs.EachLaws.{All, more, columns_append}
+use Rattle.numbers.proofs.EachLaws.{All, more, columns_append, none}
 
 -- rises strictly, from b on and below e
 abbrev pub Span : ℕ → ℕ → List ℕ → Type 0
@@ -34,6 +34,7 @@ in_append c (u ∷ us) vs (inl e) = inl (inl e)
 in_append c (u ∷ us) vs (inr i) = ⊎_elim (λ j. inl (inr j)) (λ j. inr j) (in_append c us vs i)
 
 pub in_left : {A : Type 0} (c : A) (us vs : List A) → In c us → In c (us ++ vs)
+in_left {A = A} c [] vs x' = elim x' [ ]
 in_left c (u ∷ us) vs (inl e) = inl e
 in_left c (u ∷ us) vs (inr i) = inr (in_left c us vs i)
 
@@ -42,6 +43,7 @@ in_right c [] vs i = i
 in_right c (u ∷ us) vs i = inr (in_right c us vs i)
 
 pub in_low : (b e c : ℕ) (l : List ℕ) → Span b e l → In c l → b ≤ c
+in_low b e c [] s x'' = elim x'' [ ]
 in_low b e c (v ∷ l) s (inl p) = omega (arith, s.0)
 in_low b e c (v ∷ l) s (inr i) = omega (arith, s.0, in_low (suc v) e c l s.1 i)
 
@@ -93,6 +95,7 @@ module _ (f : ℕ → ℕ → List ℕ) (step : ℕ) where
 
   pub stack_in : (c start n j : ℕ) → In c (stack f step start n j) → (q : ℕ) × (q < n) × In c (f (j + q) (start + q * step))
   unfolding stack
+  stack_in c start zero j i = elim i [ ]
   stack_in c start (suc n) j i = go (stack_in c (start + step) n (suc j)) (in_append c (f j start) (stack f step (start + step) n (suc j)) i)
     where
       go : (In c (stack f step (start + step) n (suc j)) → (q : ℕ) × (q < n) × In c (f (suc j + q) (start + step + q * step)))
@@ -127,6 +130,7 @@ contains_in c (d ∷ ds) h = ⊎_elim (λ e. inl (sym (eqb-true d c e))) (λ e. 
 
 pub in_contains : (c : ℕ) (cs : List ℕ) → In c cs → contains c cs ≡ true
 unfolding contains
+in_contains c [] x' = elim x' [ ]
 in_contains c (d ∷ ds) (inl e) = or_left (contains c ds) (eq-eqb d c (sym e))
 in_contains c (d ∷ ds) (inr i) = or_right (eqb d c) (in_contains c ds i)
 
@@ -139,6 +143,7 @@ both_in c ts us i = rw (columns_append ts us) (⊎_elim (in_left c (columns_of t
 
 -- what holds for all members
 pub all_in : {P : ℕ → Type 0} {l : List ℕ} → All P l → (c : ℕ) → In c l → P c
+all_in {P = P} none c x3 = elim x3 [ ]
 all_in {P} (more p a) c (inl e) = subst P (sym e) p
 all_in (more p a) c (inr i) = all_in a c i
 
@@ -150,6 +155,7 @@ pub record Given (f : ℕ → List ℕ) (l : List ℕ) (c : ℕ) : Type 0 where
 
 pub each_in : (f : ℕ → List ℕ) (l : List ℕ) (c : ℕ) → In c (each f l) → Given f l c
 unfolding each
+each_in f [] c i = elim i [ ]
 each_in f (v ∷ l) c i = go (each_in f l c) (in_append c (f v) (each f l) i)
   where
     go : (In c (each f l) → Given f l c) → In c (f v) ⊎ In c (each f l) → Given f (v ∷ l) c
@@ -158,11 +164,13 @@ each_in f (v ∷ l) c i = go (each_in f l c) (in_append c (f v) (each f l) i)
 
 pub in_each : (f : ℕ → List ℕ) (l : List ℕ) (c m : ℕ) → In m l → In c (f m) → In c (each f l)
 unfolding each
+in_each f [] c m x'' j = elim x'' [ ]
 in_each f (v ∷ l) c m (inl e) j = in_left c (f v) (each f l) (subst (λ (k : ℕ). In c (f k)) e j)
 in_each f (v ∷ l) c m (inr i) j = in_right c (f v) (each f l) (in_each f l c m i j)
 
 pub rows_in_lem : (f : ℕ → List Term) (n c : ℕ) → In c (columns_of (rows f n)) → (r : ℕ) × (r < n) × In c (columns_of (f r))
 unfolding rows columns_of
+rows_in_lem f zero c i = elim i [ ]
 rows_in_lem f (suc n) c i = go (rows_in_lem f n c) (in_both c (rows f n) (f n) i)
   where
     go : (In c (columns_of (rows f n)) → (r : ℕ) × (r < n) × In c (columns_of (f r))) → In c (columns_of (rows f n)) ⊎ In c (columns_of (f n))

@@ -1,6 +1,6 @@
 -- Laws of the numbers' definitions: membership at a list's end, values laid over a list, and where a row begins.
 -- Assumes nothing.
-use Prim.Native.Nat.{ℕ, suc, ◌+◌, ◌*◌, ◌<◌, ◌≤◌}
+use Prim.Native.Nat.{ℕ, suc, ◌*◌, ◌<◌, ◌≤◌}
 use mathlib.Core.Path.{◌≡◌, refl, sym, ap, ◌∙◌}
 use mathlib.Core.Bool.{Bool, true, false, ◌&&◌, ◌||◌, or_assoc, or-false}
 use mathlib.Core.List.{List, [], ◌∷◌, ◌++◌}
@@ -9,8 +9,8 @@ use borrow.Author.Tests.{eq-eqb, ne_eqb}
 use lib.Dec.{eqb}
 use lib.ListN.{length, set}
 use lib.Seq.{sets}
-use Rattle.numbers.specs.Lists.{rows, laid, laid_by, contains, start_of}
-use Rattle.numbers.proofs.ListLaws.{rows_length, rows_most}
+use Rattle.numbers.specs.Lists.{laid, laid_by, contains, start_of}
+use Rattle.numbers.proofs.ListLaws.{rows_most}
 
 -- ---- membership
 

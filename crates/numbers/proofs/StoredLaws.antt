@@ -4,7 +4,7 @@ use Prim.Native.Nat.{ℕ, zero, suc, ◌+◌, ◌-◌, ◌*◌, ◌/◌, ◌<◌
 use native.Mathlib.Decide.{ℕ_discrete}
 use native.Mathlib.Omega.{arith}
 use mathlib.Core.Logic.{inl, inr}
-use mathlib.Core.Path.{◌≡◌, refl, sym, ap, ◌∙◌}
+use mathlib.Core.Path.{◌≡◌, refl, sym, ap, subst, ◌∙◌}
 use mathlib.Core.Bool.{Bool, true, false, ◌||◌, cond}
 use mathlib.Core.List.{List, [], ◌∷◌, ◌++◌}
 use lib.Dec.{eqb}
@@ -18,7 +18,7 @@ use Rattle.numbers.specs.Terms.{Term, columns_of, terms_in, stored_row, Stored}
 use Rattle.numbers.specs.Collect.{summed_at}
 use Rattle.numbers.proofs.TabulateLaws.{is_replicate}
 use Rattle.numbers.proofs.TermLaws.{length_in}
-use Rattle.numbers.proofs.ListLaws.{laid_behind_laid, laid_length, laid_before, laid_numbers_length, laid_numbers_before, rows_length, rows_room, rows_at, rows_most}
+use Rattle.numbers.proofs.ListLaws.{laid_behind_laid, laid_length, laid_before, laid_numbers_length, laid_numbers_before, rows_room, rows_at}
 use Rattle.numbers.proofs.TransposeLaws.{row_of}
 
 -- ---- sums by column
@@ -87,6 +87,7 @@ pub record PlaceOf (c : ℕ) (xs : List ℕ) : Type 0 where
   pub is : get_or xs place 0 ≡ c
 
 pub place_of : (c : ℕ) (xs : List ℕ) → In c xs → PlaceOf c xs
+place_of c [] x' = elim x' [ ]
 place_of c (x ∷ xs) (inl e) = record { place = 0; low = omega arith; is = sym e }
 place_of c (x ∷ xs) (inr i) = let p = place_of c xs i in record { place = suc p.place; low = omega (arith, p.low); is = p.is }
 
@@ -107,12 +108,13 @@ pub in_terms : (cs : List ℕ) (xs : List Float) (k n q : ℕ) → q < n → In 
 unfolding terms_in columns_of
 in_terms cs xs k zero q h = absurd (omega arith)
 in_terms cs xs k (suc n) zero h = let e : k + 0 ≡ k = omega arith in rw e (inl refl)
-in_terms cs xs k (suc n) (suc q) h = let e : k + suc q ≡ suc k + q = omega arith in rw e (inr (in_terms cs xs (suc k) n q (omega arith)))
+in_terms cs xs k (suc n) (suc q) h = let e : k + suc q ≡ suc k + q = omega arith in subst (λ (j : ℕ). In (get_or cs j 0) (columns_of (terms_in cs xs k (suc n)))) (sym e) (inr (in_terms cs xs (suc k) n q (omega arith)))
 
 -- columns below m
 pub terms_low : (cs : List ℕ) (xs : List Float) (k n m : ℕ) → ((j : ℕ) → k ≤ j → j < k + n → get_or cs j 0 < m)
     → (d : ℕ) → In d (columns_of (terms_in cs xs k n)) → d < m
 unfolding terms_in columns_of
+terms_low cs xs k zero m h d x'' = elim x'' [ ]
 terms_low cs xs k (suc n) m h d (inl e) = omega (arith, h k (omega arith) (omega arith))
 terms_low cs xs k (suc n) m h d (inr i) = terms_low cs xs (suc k) n m (λ j a b. h j (omega arith) (omega arith)) d i
 

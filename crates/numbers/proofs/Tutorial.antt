@@ -387,6 +387,7 @@ stored_condition row n t p q o c r h b = rw (stored_is t p q o c h) (first_condi
 
 from_in_lem : (c r k : ℕ) (ts : List Term) → In k (columns_of (turned_from c r ts)) → (k ≡ r) × In c (columns_of ts)
 unfolding turned_from columns_of
+from_in_lem c r k [] i = elim i [ ]
 from_in_lem c r k (t ∷ ts) i = go (eqb t.column c) refl i (from_in_lem c r k ts)
   where
     go : (b : Bool) → eqb t.column c ≡ b → In k (columns_of (cond b (record { column = r; number = t.number } ∷ turned_from c r ts) (turned_from c r ts)))
@@ -397,6 +398,7 @@ from_in_lem c r k (t ∷ ts) i = go (eqb t.column c) refl i (from_in_lem c r k t
 
 in_from : (c r : ℕ) (ts : List Term) → In c (columns_of ts) → In r (columns_of (turned_from c r ts))
 unfolding turned_from columns_of
+in_from c r [] x' = elim x' [ ]
 in_from c r (t ∷ ts) (inl e) = rw (eq-eqb t.column c (sym e)) (inl refl)
 in_from c r (t ∷ ts) (inr i) = go (eqb t.column c) (in_from c r ts i)
   where

@@ -1,6 +1,8 @@
 // Complex numbers as pairs of doubles, by value, and a number's place in a list of doubles.
 // Each operation rounds once for each of the doubles' operations that it is made of, in the order of docs/SPECIFICATION.md, 1.
 
+#![tactic(auto)]
+
 ghost use Rattle.std.specs.Prelude.{◌≡◌, ◌+◌, ◌*◌, ◌<◌, length};
 ghost use Rattle.numbers.specs.Complex.{zero_number, one_number, sum, difference, product, squares, quotient, real_over, over_real, real_times, negation, conjugate, one_minus, inverse, finite_double, finite, is_zero};
 ghost use Rattle.numbers.specs.Places.{number_at, set_number, found_at};
@@ -11,7 +13,7 @@ pub mod terms;
 pub mod transpose;
 
 // A complex number: real part, then imaginary part.
-#[derive(Drop)]
+#[derive(Clone, Copy)]
 pub struct C64 {
     pub re: f64,
     pub im: f64,

@@ -6,7 +6,7 @@ ghost use Rattle.numbers.specs.Terms.{Wrote};
 use crate::C64;
 
 // Where rows that stand in lists begin: their starts, and their columns and numbers.
-#[derive(Drop)]
+#[derive(Clone, Copy)]
 pub struct Part {
     pub s: usize,
     pub k: usize,

@@ -25,21 +25,21 @@ pub const HAT_PLACES: usize = 24576;
 pub const HAT_COUNTS: usize = 192;
 
 // A fine node around a coarse one, and its weight.
-#[derive(Drop)]
+#[derive(Clone, Copy)]
 pub struct Hat {
     pub node: usize,
     pub weight: f64,
 }
 
 // A sum of weighted means, and the sum of the weights.
-#[derive(Drop)]
+#[derive(Clone, Copy)]
 pub struct Weighed {
     pub total: C64,
     pub weight: f64,
 }
 
 // How many hats stand around an edge's node on the axes across its component: the next and the last.
-#[derive(Drop)]
+#[derive(Clone, Copy)]
 pub struct Counts {
     pub next: usize,
     pub last: usize,
@@ -472,7 +472,7 @@ pub fn averaged_eps(
 
 // ---- one edge alone
 
-fn line_on_lem(s: Three, axis: usize) -> Line
+fn line_on(s: Three, axis: usize) -> Line
     ensures { result ≡ axis3 axis s.x s.y s.z }
 {
     if axis == 0 {
@@ -504,8 +504,8 @@ fn around_on(
         nodes.new weights.new result }
 {
     let wall = lattice::lattice::is_wall(lattice::lattice::edges_on(l, st, axis));
-    let f = line_on_lem(fine, axis);
-    let c = line_on_lem(coarse, axis);
+    let f = line_on(fine, axis);
+    let c = line_on(coarse, axis);
     push_around(f, c, nn, 65 * axis, wall, m, nodes, weights, from)
 }
 

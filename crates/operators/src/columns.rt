@@ -6,7 +6,7 @@ ghost use Rattle.operators.specs.Columns.{keep, line, plane, block, row, Listed}
 use crate::words;
 
 // For each axis the places of `same` and of `near`: a column is near on one axis and the same on the others.
-#[derive(Drop)]
+#[derive(Clone, Copy)]
 pub struct Picks {
     pub sx: u64,
     pub tx: u64,

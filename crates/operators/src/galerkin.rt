@@ -17,7 +17,7 @@ use numbers::{C64, lists};
 pub const SUM_DOUBLES: usize = 24576;
 
 // Where the rows of the fine operator come from: worked out from the lattice, or read in the lists of the operator that is laid, from a part on.
-#[derive(Drop)]
+#[derive(Clone, Copy)]
 pub enum FineRows {
     Computed,
     Stored(Part),

@@ -1,5 +1,7 @@
 // Operators: the pattern of a row, rows from the lattice, Galerkin's, and rediscretized levels.
 
+#![tactic(auto)]
+
 pub mod averaged;
 pub mod base;
 pub mod columns;

@@ -10,7 +10,7 @@ use store::handed::{Cells, Span};
 use store::{handed, needed};
 
 // A line of the listing: the level, its cells along the axes, and the forward weights to the next level, 0 at the last.
-#[derive(Drop)]
+#[derive(Clone, Copy)]
 pub struct LevelLine {
     pub level: usize,
     pub x: usize,

@@ -21,7 +21,7 @@ use store::setup::Answer;
 
 // Where a reading stands. `inside`: in the body of a record, whose first `filled` bytes `body` has. `at`: the offset of the next byte. `start`: the offset of the kind byte
 // of that record. `number` and `place`: those of the refusal that ended the reading; 0 and the level count while there is none.
-#[derive(Drop)]
+#[derive(Clone, Copy)]
 pub struct Reader {
     pub seen: Seen,
     pub inside: bool,
@@ -34,7 +34,7 @@ pub struct Reader {
 }
 
 // What a reading answers: a refusal's number and place, or 0 and the level count.
-#[derive(Drop)]
+#[derive(Clone, Copy)]
 pub struct Told {
     pub number: usize,
     pub place: usize,

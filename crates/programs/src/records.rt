@@ -14,7 +14,7 @@ pub const BODY: usize = 46;
 
 // What the records so far have said. `stage`: 0 before the grid, 1 to 3 before an axis's kind, 4 in the numbers and before the choice, 5 among the changes, 6 behind
 // the end. `count`: the numbers read. `grid`: the grid's body.
-#[derive(Drop)]
+#[derive(Clone, Copy)]
 pub struct Seen {
     pub stage: usize,
     pub count: usize,

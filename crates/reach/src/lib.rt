@@ -1,4 +1,6 @@
 // The rows that a change reaches, as flags.
 
+#![tactic(auto)]
+
 pub mod flags;
 pub mod hits;

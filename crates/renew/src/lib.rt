@@ -1,5 +1,7 @@
 // The flagged rows worked out anew, their old numbers kept and put back where a new one is not finite.
 
+#![tactic(auto)]
+
 pub mod cursor;
 pub mod flag;
 pub mod guard;

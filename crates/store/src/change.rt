@@ -5,7 +5,7 @@ use numbers::terms::Part;
 
 // What a change is answered with: as a setup, the level count or a refusal; or that there is no such edge (9), that the value is not finite or zero
 // (10), or the lowest level whose starts, columns or ends differ from the lattice's (11).
-#[derive(Drop)]
+#[derive(Clone, Copy)]
 pub enum Changed {
     Answered(Answer),
     NoEdge(usize),
@@ -18,7 +18,7 @@ pub const EDGES: usize = 12288;
 
 // The flags of a level: its permittivities, its averaged permittivities and the rows of its operator; and the forward and the turned rows of the transfer
 // from it to the level before.
-#[derive(Drop)]
+#[derive(Clone, Copy)]
 pub struct Hits {
     pub eps: [bool; EDGES],
     pub averaged: [bool; EDGES],
@@ -28,7 +28,7 @@ pub struct Hits {
 }
 
 // Where the rows of a transfer and of its fine level's operator stand.
-#[derive(Drop)]
+#[derive(Clone, Copy)]
 pub struct LevelParts {
     pub forward: Part,
     pub turned: Part,
@@ -36,7 +36,7 @@ pub struct LevelParts {
 }
 
 // Besides its offsets: its flags, the averaged permittivities of its fine and of its coarse level, its volumes; starts and terms of its coarse level's operator.
-#[derive(Drop)]
+#[derive(Clone, Copy)]
 pub struct Standing {
     pub base: usize,
     pub from: usize,
@@ -47,7 +47,7 @@ pub struct Standing {
 }
 
 // The words of a part but where its flags begin: how many rows, the number of their list, where their starts and where their numbers begin.
-#[derive(Drop)]
+#[derive(Clone, Copy)]
 pub struct Words {
     pub rows: usize,
     pub list: usize,
@@ -56,7 +56,7 @@ pub struct Words {
 }
 
 // Where the permittivities of a coarse level begin, those of the averaged chain, the scaling, and starts and numbers of the rows.
-#[derive(Drop)]
+#[derive(Clone, Copy)]
 pub struct Marks {
     pub eps: usize,
     pub averaged: usize,
@@ -68,7 +68,7 @@ pub struct Marks {
 
 // A double of a row: the row's part and number, the list (0 permittivities, 1 forward, 2 turned, 3 operator, 4 scaling), the double's place there, and how
 // many of the row's doubles are left, this one among them. None is left at the end of the walk.
-#[derive(Drop)]
+#[derive(Clone, Copy)]
 pub struct Cursor {
     pub part: usize,
     pub row: usize,
@@ -78,7 +78,7 @@ pub struct Cursor {
 }
 
 // How many doubles were saved, and the next one.
-#[derive(Drop)]
+#[derive(Clone, Copy)]
 pub struct Saved {
     pub next: Cursor,
     pub n: usize,

@@ -6,14 +6,14 @@ ghost use Rattle.store.specs.Handed.{cells_in, some_cells, level_there, edges_in
 
 // The cells of axis a on level L are number 3 L + a. A level exists if it is below `levels` and below 12 and each of its axes has 1 to 64 cells. Then
 // it has at most 3 × 64^3 edges: the limit of 4,096 cells, refusal 1, is not needed here.
-#[derive(Drop)]
+#[derive(Clone, Copy)]
 pub struct Cells {
     pub levels: usize,
     pub cells: [usize; 36],
 }
 
 // The terms of a row, from one place up to another; or that there is no such row.
-#[derive(Drop)]
+#[derive(Clone, Copy)]
 pub enum Span {
     At(usize, usize),
     Nowhere,

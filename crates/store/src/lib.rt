@@ -1,5 +1,7 @@
 // The store: twelve lent lists, what they need, and the setup that fills them.
 
+#![tactic(auto)]
+
 pub mod change;
 pub mod ends;
 pub mod fill;
@@ -17,7 +19,7 @@ pub mod transfers;
 pub mod zeros;
 
 // How the coarse operators come about: restriction × fine operator × interpolation (Galerkin), or the lattice's own rows on the coarse cells.
-#[derive(Drop)]
+#[derive(Clone, Copy)]
 pub enum Choice {
     Galerkin,
     Rediscretized,

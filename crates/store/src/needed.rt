@@ -20,7 +20,7 @@ use lattice::line::Line;
 use lattice::{check, levels};
 
 // The level count or what is refused; where nothing is, the places that the lists need and the levels' cells, else zeros.
-#[derive(Drop)]
+#[derive(Clone, Copy)]
 pub struct Needed {
     pub answer: Answer,
     pub needs: Needs,

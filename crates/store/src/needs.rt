@@ -19,7 +19,7 @@ use weights::{prolongation, tables};
 
 // Places: line ends, numbers of the permittivities, starts of the forward rows and terms of them (the turned rows have as many), starts of the turned
 // rows, starts and terms of the operator rows, numbers of the scaling.
-#[derive(Drop)]
+#[derive(Clone, Copy)]
 pub struct Needs {
     pub ends: usize,
     pub eps: usize,
@@ -32,7 +32,7 @@ pub struct Needs {
 }
 
 // The lengths of the twelve lists.
-#[derive(Drop)]
+#[derive(Clone, Copy)]
 pub struct Lengths {
     pub ends: usize,
     pub eps: usize,

@@ -24,7 +24,7 @@ use numbers::lists;
 
 // What a setup is answered with: the level count, or what is refused. Refusals 1 to 4 (`Refused`), 5 (`TooMany`), 8 at a level (`Twice`), 6 at a list
 // (`Short`), 7 at a level (`NotFinite`).
-#[derive(Drop)]
+#[derive(Clone, Copy)]
 pub enum Answer {
     Levels(usize),
     Refused(Checked),

@@ -17,7 +17,7 @@ use numbers::terms::Part;
 use weights::whole;
 
 // Where the parts of a transfer begin: the permittivities of its fine and of its coarse level; starts and terms of its forward rows and of its turned rows.
-#[derive(Drop)]
+#[derive(Clone, Copy)]
 pub struct Offsets {
     pub feps: usize,
     pub ceps: usize,

@@ -16,6 +16,8 @@
 //   built L ..          a number of levels, and the cells of 12
 //   places ..           starts
 //   handed L R D W      hands back row R of level L, with those starts, from lists of D doubles and W words, each of which says its place
+
+#![tactic(auto)]
 mod handed;
 mod inputs;
 mod setups;

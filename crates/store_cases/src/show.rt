@@ -81,7 +81,7 @@ pub fn changed(a: Changed) {
 
 // ---- lists
 
-#[derive(Drop)]
+#[derive(Clone, Copy)]
 struct Run {
     value: u64,
     count: usize,

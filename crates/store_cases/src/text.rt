@@ -1,7 +1,7 @@
 // The words of a line of the test file.
 
 // A word, how many times it stands there from here on, and the place behind it; or that there is none.
-#[derive(Drop)]
+#[derive(Clone, Copy)]
 pub struct Word {
     pub found: bool,
     pub value: u64,
@@ -95,7 +95,7 @@ pub fn byte(line: &[u8], k: usize) -> u8 {
 }
 
 // The bytes of a line, and whether the input ended in it.
-#[derive(Drop)]
+#[derive(Clone, Copy)]
 pub struct Read {
     pub bytes: usize,
     pub ended: bool,

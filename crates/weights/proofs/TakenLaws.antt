@@ -152,6 +152,7 @@ module _ (cs : List ℕ) (rises : Rises cs) (m : ℕ) (h : m < length cs - 1) (l
 -- what is taken and not fixed is kept
 pub kept_in : (w : Bool) (ms : List ℕ) (j : ℕ) → barred w j ≡ false → In j ms → In j (kept_places w ms)
 unfolding kept_places
+kept_in w [] j h x'' = elim x'' [ ]
 kept_in w (m ∷ ms) j h (inl e) = rw (ap (barred w) (sym e) ∙ h) (inl e)
 kept_in w (m ∷ ms) j h (inr i) = go (barred w m) (kept_in w ms j h i)
   where

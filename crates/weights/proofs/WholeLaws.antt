@@ -43,6 +43,7 @@ use Rattle.numbers.proofs.Tutorial.{columns_rows, numbers_rows, start_columns, t
 
 -- an element of a list has what all its elements have
 pub all_in : {P : ℕ → Type 0} {cs : List ℕ} → All P cs → (c : ℕ) → In c cs → P c
+all_in {P = P} none c x3 = elim x3 [ ]
 all_in {P} (more {x = x} p u) c (head e) = subst P (sym e) p
 all_in (more p u) c (tail m) = all_in u c m
 

@@ -19,7 +19,7 @@ use lattice::levels::Three;
 use numbers::{C64, lists};
 
 // The fine edges of a coarse edge's cell: places first to last - 1 along the component of a node of the fine level.
-#[derive(Drop)]
+#[derive(Clone, Copy)]
 pub struct Along {
     pub node: Position,
     pub first: usize,
@@ -27,7 +27,7 @@ pub struct Along {
 }
 
 // The node of a coarse position on the fine level. nn has the nodes' numbers, 65 for each axis.
-fn on_fine_lem(nn: &[usize], p: Position) -> Position
+fn on_fine(nn: &[usize], p: Position) -> Position
     requires nn_len { length nn.now ≡ node_count }
     requires i_bound { (p.i < 64) × (p.j < 64) × (p.k < 64) }
     ensures { result ≡ on_fine_in nn.now p }
@@ -74,7 +74,7 @@ fn cell_at(gc: Grid3d, nn: &[usize], r: usize) -> Along
     let p = grid::at(gc, r);
     let a = p.component;
     let m = grid::place_on(p, a);
-    let node = on_fine_lem(nn, p);
+    let node = on_fine(nn, p);
     let first = nn[65 * a + m];
     let last = nn[65 * a + m + 1];
     Along { node, first, last }

@@ -17,7 +17,7 @@ use numbers::C64;
 
 // The rule that gives a place its weights: a coarse value there; on a wall axis outside the coarse values, the nearest (along) or an outside
 // neighbour dropped (across); else between two neighbours. Of the first two the coarse value, of the others how many values lie before the place.
-#[derive(Drop)]
+#[derive(Clone, Copy)]
 pub enum Rule {
     Coincides(usize),
     Nearest(usize),
@@ -26,7 +26,7 @@ pub enum Rule {
 }
 
 // At most two coarse places, zero where there is none.
-#[derive(Drop)]
+#[derive(Clone, Copy)]
 pub struct Spots {
     pub count: usize,
     pub first: usize,
@@ -34,7 +34,7 @@ pub struct Spots {
 }
 
 // The same with their weights.
-#[derive(Drop)]
+#[derive(Clone, Copy)]
 pub struct Pulls {
     pub count: usize,
     pub first: usize,

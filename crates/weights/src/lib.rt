@@ -1,5 +1,7 @@
 // The third layer: interpolation, the chain of permittivities, the prolongation and its transpose.
 
+#![tactic(auto)]
+
 pub mod eps;
 pub mod interpolate;
 pub mod prolongation;

@@ -14,7 +14,7 @@ use lattice::grid::{Grid3d, Position};
 use numbers::{C64, lists};
 
 // An entry of a slot: the coarse place, the fine place of its permittivity, the weight.
-#[derive(Drop)]
+#[derive(Clone, Copy)]
 pub struct Pull {
     pub place: usize,
     pub node: usize,
@@ -22,7 +22,7 @@ pub struct Pull {
 }
 
 // Both grids, and where the permittivities of their edges begin in a list.
-#[derive(Drop)]
+#[derive(Clone, Copy)]
 pub struct Span {
     pub fine: Grid3d,
     pub coarse: Grid3d,
@@ -123,7 +123,7 @@ pub fn columns_at(
 }
 
 // How many weights the row of position p has.
-pub fn count_at_lem(ns: &[usize], p: Position) -> usize
+pub fn count_at(ns: &[usize], p: Position) -> usize
     requires ns_len { length ns.now ≡ all_slots }
     requires by_index { (q : ℕ) → q < all_slots → get_or ns.now q 0 ≤ 2 }
     requires component_bound { (p.component < 3) × (p.k < 64) }

@@ -1,6 +1,8 @@
 // The calls for C and Rust: a setup, a change, a file, what a setup needs, and where its rows stand. They ask nothing of their caller but that each pointer is good for its
 // length: bad input gets its refusal, and what would lie past the end of a result list is left out.
 
+#![tactic(auto)]
+
 ghost use Rattle.std.specs.Prelude.{◌≡◌, ◌/◌, length};
 ghost use Rattle.numbers.specs.Lists.{laid};
 ghost use Rattle.store.specs.Store.{lent};

@@ -1,0 +1,15 @@
+use Rattle.lattice.proofs.GridLaws.{axis_first, axis_second, axis_third}
+use Rattle.lattice.specs.Lattice.{edges_of}
+use Rattle.lattice.proofs.lattice.edges_on.Goals as goal
+
+pub returns-then-axis-eq0 : goal.returns-then-axis-eq0
+unfolding edges_of
+returns-then-axis-eq0 c = axis_first _ _ _ _ c.if-axis-eq0.true
+
+pub returns-then-axis-eq1 : goal.returns-then-axis-eq1
+unfolding edges_of
+returns-then-axis-eq1 c = axis_second _ _ _ _ c.if-axis-eq0.false c.if-axis-eq1.true
+
+pub returns : goal.returns
+unfolding edges_of
+returns c = axis_third _ _ _ _ c.if-axis-eq0.false c.if-axis-eq1.false

@@ -1,0 +1,6 @@
+use Rattle.weights.proofs.InterpolateLaws.{Reached}
+use Prim.Native.Nat.{◌-◌}
+use Rattle.weights.proofs.interpolate.up_to.Given as goal
+
+abbrev pub invariant-loop-m : goal.invariant-loop-m
+invariant-loop-m l = Reached l.places l.from l.n l.p l.m

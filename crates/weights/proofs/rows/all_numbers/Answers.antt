@@ -1,0 +1,33 @@
+use Prim.Native.Nat.{◌-◌}
+use native.Mathlib.Omega.{arith}
+use Rattle.lattice.proofs.GridLaws.{unknowns_most}
+use Rattle.weights.specs.Tables.{numbers_row}
+use Rattle.numbers.proofs.RowLoops.{going_start, going_turn, going_end}
+use Rattle.weights.proofs.RowLaws.{at_low, numbers_most}
+use Rattle.weights.proofs.rows.all_numbers.Goals as goal
+
+pub loop-r-init : goal.loop-r-init
+loop-r-init c = (omega (arith, unknowns_most c.requires.span_of.fine_in), going_start)
+
+pub numbers_at-k-requires-clause-span_of : goal.numbers_at-k-requires-clause-span_of
+numbers_at-k-requires-clause-span_of c = let l = at_low c.requires.span_of.fine_in (omega arith) c.at.ensures in
+    c.requires.span_of
+
+pub numbers_at-k-requires-clause-i_bound : goal.numbers_at-k-requires-clause-i_bound
+numbers_at-k-requires-clause-i_bound c = let l = at_low c.requires.span_of.fine_in (omega arith) c.at.ensures in
+    (l.i_low, l.j_low)
+
+pub numbers_at-k-requires-clause-from_bound : goal.numbers_at-k-requires-clause-from_bound
+numbers_at-k-requires-clause-from_bound c = let l = at_low c.requires.span_of.fine_in (omega arith) c.at.ensures in
+    omega (arith, c.requires.from_bound)
+
+pub loop-r-preserved : goal.loop-r-preserved
+loop-r-preserved c =
+    let l = at_low c.requires.span_of.fine_in (omega arith) c.at.ensures in
+    let m = numbers_most c.requires.span_of.places _ _ _ _ _ _ l.i_low l.j_low l.k_low in
+    let u = c.loop-r.invariant in
+    (u.0, going_turn u.1 c.loop-r-test.true c.at.ensures c.numbers_at-k.ensures m)
+
+pub returns : goal.returns
+unfolding numbers_row
+returns c = going_end c.loop-r.invariant.1 c.loop-r-test.false c.unknowns-n.ensures

@@ -1,0 +1,37 @@
+-- `weights::whole::transfer` meets its contract.
+-- Assumes nothing.
+use mathlib.Core.Path.{ap, ◌∙◌}
+use Rattle.lattice.specs.Grid.{unknowns_of}
+use Rattle.weights.proofs.TwoLevelLaws.{fine_grid_lem, coarse_grid_lem}
+use Rattle.weights.proofs.WholeLaws.{fine_limited, coarse_limited, room_for, weights_room, turn_ready, whole_left, finite_both, finite_not}
+use Rattle.weights.proofs.whole.transfer.Goals as goal
+
+pub weights-b-requires-clause-paired : goal.weights-b-requires-clause-paired
+weights-b-requires-clause-paired c = c.requires.paired
+
+pub weights-b-requires-clause-room_for : goal.weights-b-requires-clause-room_for
+weights-b-requires-clause-room_for c = room_for c.requires.paired c.requires.whole_room _ c.coarse_eps-a.ensures.eps_after
+
+pub weights-b-requires-clause-k_bound : goal.weights-b-requires-clause-k_bound
+weights-b-requires-clause-k_bound c = weights_room c.requires.paired c.requires.whole_room
+
+pub unknowns-n-requires : goal.unknowns-n-requires
+unknowns-n-requires c = fine_limited c.requires.paired c.grid_of-gf.ensures
+
+pub unknowns-m-requires : goal.unknowns-m-requires
+unknowns-m-requires c = coarse_limited c.requires.paired c.grid_of-gc.ensures
+
+-- OLD transpose-requires
+--  turn_ready c.requires.paired c.requires.whole_room c.columns.ensures.starts_after c.columns.ensures.laid (c.unknowns-n.ensures ∙ ap unknowns_of (c.grid_of-gf.ensures ∙ fine_grid_lem _ _ _ c.requires.paired.fine_held)) (c.unknowns-m.ensures ∙ ap unknowns_of (c.grid_of-gc.ensures ∙ coarse_grid_lem _ _ _ c.requires.paired.coarse_held)) _ c.weights-b.ensures.0
+
+pub returns-then-a-clause-whole_left : goal.returns-then-a-clause-whole_left
+returns-then-a-clause-whole_left c = whole_left c.requires.paired c.requires.whole_room c.columns.ensures.starts_after c.columns.ensures.laid (c.unknowns-n.ensures ∙ ap unknowns_of (c.grid_of-gf.ensures ∙ fine_grid_lem _ _ _ c.requires.paired.fine_held)) (c.unknowns-m.ensures ∙ ap unknowns_of (c.grid_of-gc.ensures ∙ coarse_grid_lem _ _ _ c.requires.paired.coarse_held)) c.coarse_eps-a.ensures.eps_after c.weights-b.ensures.0 c.transpose.ensures
+
+pub returns-then-a-clause-value : goal.returns-then-a-clause-value
+returns-then-a-clause-value c = finite_both c.requires.paired c.requires.whole_room c.coarse_eps-a.ensures.eps_after c.coarse_eps-a.ensures.value c.weights-b.ensures.1 c.if-a.true
+
+pub returns-else-a-clause-whole_left : goal.returns-else-a-clause-whole_left
+returns-else-a-clause-whole_left c = whole_left c.requires.paired c.requires.whole_room c.columns.ensures.starts_after c.columns.ensures.laid (c.unknowns-n.ensures ∙ ap unknowns_of (c.grid_of-gf.ensures ∙ fine_grid_lem _ _ _ c.requires.paired.fine_held)) (c.unknowns-m.ensures ∙ ap unknowns_of (c.grid_of-gc.ensures ∙ coarse_grid_lem _ _ _ c.requires.paired.coarse_held)) c.coarse_eps-a.ensures.eps_after c.weights-b.ensures.0 c.transpose.ensures
+
+pub returns-else-a-clause-value : goal.returns-else-a-clause-value
+returns-else-a-clause-value c = finite_not c.requires.paired c.requires.whole_room c.coarse_eps-a.ensures.eps_after c.coarse_eps-a.ensures.value c.if-a.false
