@@ -1,265 +1,206 @@
+-- `weights::prolongation::weights` meets its contract: `levels` has the grids and the values' places, `slots` the counts and places,
+-- `pulls` the fine places and the weights.
+-- Assumes nothing.
 use mathlib.Core.Path.{◌∙◌}
 use Rattle.lattice.specs.Lattice.{full_lattice}
 use Rattle.weights.proofs.SlotLaws.{Worked, coarse_in, values_are, ends_of_lem}
 use Rattle.weights.proofs.MeaningLaws.{Slotted, slotted, slots_low, Pulled, pulled, span_of, weights_room, weights_laid, weights_finite}
 use Rattle.weights.proofs.prolongation.weights.Goals as goal
 
--- the start, from behind the values' places
-abbrev first : goal.After-value-places2 → tie.Start
-first c = c.before.before.before.before.before.before.before
-
--- these, from behind the places
-abbrev lines : goal.After-places → goal.After-value-places2
-lines c = c.before.before.before.before.before.before
-
--- these, from behind the weights
-abbrev lists : goal.After-pulls → goal.After-places
-lists c = c.before.before.before.before.before.before.before.before.before.before.before
-
 pub counts-ns-requires-clause-limits : goal.counts-ns-requires-clause-limits
-counts-ns-requires-clause-limits c = let levels : Worked (full_lattice (first c).args.l (first c).args.st.now) (first c).args.fine (first c).args.coarse
-    c.grid_of-gf.result c.grid_of-gc.result
-    c.value_places-fs.result c.value_places-cs.result = record {
-      paired = (first c).requires.0;
-      fine_is = c.grid_of-gf.ensures;
-      coarse_is = c.grid_of-gc.ensures;
-      values_fine = c.value_places-fs.ensures;
-      values_coarse = c.value_places-cs.ensures;
-    } in
-    let w = levels in coarse_in w
+counts-ns-requires-clause-limits c =
+    let levels : Worked (full_lattice c.args.l c.args.st.now) c.args.fine c.args.coarse
+            c.grid_of-gf.result c.grid_of-gc.result c.value_places-fs.result c.value_places-cs.result =
+        record {
+          paired = c.requires.paired;
+          fine_is = c.grid_of-gf.ensures;
+          coarse_is = c.grid_of-gc.ensures;
+          values_fine = c.value_places-fs.ensures;
+          values_coarse = c.value_places-cs.ensures;
+        } in
+    coarse_in levels
 
 pub counts-ns-requires-clause-values_of : goal.counts-ns-requires-clause-values_of
-counts-ns-requires-clause-values_of c = let levels : Worked (full_lattice (first c).args.l (first c).args.st.now) (first c).args.fine (first c).args.coarse
-    c.grid_of-gf.result c.grid_of-gc.result
-    c.value_places-fs.result c.value_places-cs.result = record {
-      paired = (first c).requires.0;
-      fine_is = c.grid_of-gf.ensures;
-      coarse_is = c.grid_of-gc.ensures;
-      values_fine = c.value_places-fs.ensures;
-      values_coarse = c.value_places-cs.ensures;
-    } in
-    let w = levels in values_are w
+counts-ns-requires-clause-values_of c =
+    let levels : Worked (full_lattice c.args.l c.args.st.now) c.args.fine c.args.coarse
+            c.grid_of-gf.result c.grid_of-gc.result c.value_places-fs.result c.value_places-cs.result =
+        record {
+          paired = c.requires.paired;
+          fine_is = c.grid_of-gf.ensures;
+          coarse_is = c.grid_of-gc.ensures;
+          values_fine = c.value_places-fs.ensures;
+          values_coarse = c.value_places-cs.ensures;
+        } in
+    values_are levels
 
 pub places-ps-requires-clause-limits : goal.places-ps-requires-clause-limits
-places-ps-requires-clause-limits c = let levels : Worked (full_lattice (first c).args.l (first c).args.st.now) (first c).args.fine (first c).args.coarse
-    c.grid_of-gf.result c.grid_of-gc.result
-    c.value_places-fs.result c.value_places-cs.result = record {
-      paired = (first c).requires.0;
-      fine_is = c.grid_of-gf.ensures;
-      coarse_is = c.grid_of-gc.ensures;
-      values_fine = c.value_places-fs.ensures;
-      values_coarse = c.value_places-cs.ensures;
-    } in
-    let w = levels in coarse_in w
+places-ps-requires-clause-limits c =
+    let levels : Worked (full_lattice c.args.l c.args.st.now) c.args.fine c.args.coarse
+            c.grid_of-gf.result c.grid_of-gc.result c.value_places-fs.result c.value_places-cs.result =
+        record {
+          paired = c.requires.paired;
+          fine_is = c.grid_of-gf.ensures;
+          coarse_is = c.grid_of-gc.ensures;
+          values_fine = c.value_places-fs.ensures;
+          values_coarse = c.value_places-cs.ensures;
+        } in
+    coarse_in levels
 
 pub places-ps-requires-clause-values_of : goal.places-ps-requires-clause-values_of
-places-ps-requires-clause-values_of c = let levels : Worked (full_lattice (first c).args.l (first c).args.st.now) (first c).args.fine (first c).args.coarse
-    c.grid_of-gf.result c.grid_of-gc.result
-    c.value_places-fs.result c.value_places-cs.result = record {
-      paired = (first c).requires.0;
-      fine_is = c.grid_of-gf.ensures;
-      coarse_is = c.grid_of-gc.ensures;
-      values_fine = c.value_places-fs.ensures;
-      values_coarse = c.value_places-cs.ensures;
-    } in
-    let w = levels in values_are w
+places-ps-requires-clause-values_of c =
+    let levels : Worked (full_lattice c.args.l c.args.st.now) c.args.fine c.args.coarse
+            c.grid_of-gf.result c.grid_of-gc.result c.value_places-fs.result c.value_places-cs.result =
+        record {
+          paired = c.requires.paired;
+          fine_is = c.grid_of-gf.ensures;
+          coarse_is = c.grid_of-gc.ensures;
+          values_fine = c.value_places-fs.ensures;
+          values_coarse = c.value_places-cs.ensures;
+        } in
+    values_are levels
 
--- OLD reads-requires
--- 
---     let levels : Worked (full_lattice (first c).args.l (first c).args.st.now) (first c).args.fine (first c).args.coarse
---     c.grid_of-gf.result c.grid_of-gc.result
---     c.value_places-fs.result c.value_places-cs.result = record {
---       paired = (first c).requires.0;
---       fine_is = c.grid_of-gf.ensures;
---       coarse_is = c.grid_of-gc.ensures;
---       values_fine = c.value_places-fs.ensures;
---       values_coarse = c.value_places-cs.ensures;
---     } in
---     let slots : Slotted (full_lattice (first (lines c)).args.l (first (lines c)).args.st.now) (first (lines c)).args.fine (first (lines c)).args.coarse
---     (lines c).before.before.before.grid-of.result (lines c).before.before.grid-of2.result
---     c.places-ps.result c.counts-ns.result = slotted (levels (lines c)) c.counts-ns.ensures c.places-ps.ensures in
---     slots_low (slots) c.nodes-nn.ensures
+pub reads-ds-requires-clause-nn_len : goal.reads-ds-requires-clause-nn_len
+reads-ds-requires-clause-nn_len c =
+    let levels : Worked (full_lattice c.args.l c.args.st.now) c.args.fine c.args.coarse
+            c.grid_of-gf.result c.grid_of-gc.result c.value_places-fs.result c.value_places-cs.result =
+        record {
+          paired = c.requires.paired;
+          fine_is = c.grid_of-gf.ensures;
+          coarse_is = c.grid_of-gc.ensures;
+          values_fine = c.value_places-fs.ensures;
+          values_coarse = c.value_places-cs.ensures;
+        } in
+    let slots : Slotted (full_lattice c.args.l c.args.st.now) c.args.fine c.args.coarse
+            c.grid_of-gf.result c.grid_of-gc.result c.places-ps.result c.counts-ns.result =
+        slotted levels c.counts-ns.ensures c.places-ps.ensures in
+    (slots_low slots c.nodes-nn.ensures).0
 
--- src/prolongation.rt:76:16
+pub reads-ds-requires-clause-by_index : goal.reads-ds-requires-clause-by_index
+reads-ds-requires-clause-by_index c =
+    let levels : Worked (full_lattice c.args.l c.args.st.now) c.args.fine c.args.coarse
+            c.grid_of-gf.result c.grid_of-gc.result c.value_places-fs.result c.value_places-cs.result =
+        record {
+          paired = c.requires.paired;
+          fine_is = c.grid_of-gf.ensures;
+          coarse_is = c.grid_of-gc.ensures;
+          values_fine = c.value_places-fs.ensures;
+          values_coarse = c.value_places-cs.ensures;
+        } in
+    let slots : Slotted (full_lattice c.args.l c.args.st.now) c.args.fine c.args.coarse
+            c.grid_of-gf.result c.grid_of-gc.result c.places-ps.result c.counts-ns.result =
+        slotted levels c.counts-ns.ensures c.places-ps.ensures in
+    (slots_low slots c.nodes-nn.ensures).1
+
 pub maps-maps-requires : goal.maps-maps-requires
-maps-maps-requires c = (first (lines c.before.before.before.before)).requires.0.base_limits
+maps-maps-requires c = c.requires.paired.base_limits
 
--- src/prolongation.rt:77:14
 pub last_ends-es-requires : goal.last_ends-es-requires
-last_ends-es-requires c = (first (lines c.before.before.before.before.before)).requires.0.coarse_held
+last_ends-es-requires c = c.requires.paired.coarse_held
 
 pub pulls-xs-requires-clause-limits : goal.pulls-xs-requires-clause-limits
-pulls-xs-requires-clause-limits c = let levels : Worked (full_lattice (first c).args.l (first c).args.st.now) (first c).args.fine (first c).args.coarse
-    c.grid_of-gf.result c.grid_of-gc.result
-    c.value_places-fs.result c.value_places-cs.result = record {
-      paired = (first c).requires.0;
-      fine_is = c.grid_of-gf.ensures;
-      coarse_is = c.grid_of-gc.ensures;
-      values_fine = c.value_places-fs.ensures;
-      values_coarse = c.value_places-cs.ensures;
-    } in
-    let w = levels in
-    let e = ends_of_lem w.paired.coarse_held c.last_ends-es.ensures in
-    coarse_in w
+pulls-xs-requires-clause-limits c =
+    let levels : Worked (full_lattice c.args.l c.args.st.now) c.args.fine c.args.coarse
+            c.grid_of-gf.result c.grid_of-gc.result c.value_places-fs.result c.value_places-cs.result =
+        record {
+          paired = c.requires.paired;
+          fine_is = c.grid_of-gf.ensures;
+          coarse_is = c.grid_of-gc.ensures;
+          values_fine = c.value_places-fs.ensures;
+          values_coarse = c.value_places-cs.ensures;
+        } in
+    coarse_in levels
 
 pub pulls-xs-requires-clause-values_of : goal.pulls-xs-requires-clause-values_of
-pulls-xs-requires-clause-values_of c = let levels : Worked (full_lattice (first c).args.l (first c).args.st.now) (first c).args.fine (first c).args.coarse
-    c.grid_of-gf.result c.grid_of-gc.result
-    c.value_places-fs.result c.value_places-cs.result = record {
-      paired = (first c).requires.0;
-      fine_is = c.grid_of-gf.ensures;
-      coarse_is = c.grid_of-gc.ensures;
-      values_fine = c.value_places-fs.ensures;
-      values_coarse = c.value_places-cs.ensures;
-    } in
-    let w = levels in
-    let e = ends_of_lem w.paired.coarse_held c.last_ends-es.ensures in
-    values_are w
+pulls-xs-requires-clause-values_of c =
+    let levels : Worked (full_lattice c.args.l c.args.st.now) c.args.fine c.args.coarse
+            c.grid_of-gf.result c.grid_of-gc.result c.value_places-fs.result c.value_places-cs.result =
+        record {
+          paired = c.requires.paired;
+          fine_is = c.grid_of-gf.ensures;
+          coarse_is = c.grid_of-gc.ensures;
+          values_fine = c.value_places-fs.ensures;
+          values_coarse = c.value_places-cs.ensures;
+        } in
+    values_are levels
 
 pub pulls-xs-requires-clause-xs_len : goal.pulls-xs-requires-clause-xs_len
-pulls-xs-requires-clause-xs_len c = let levels : Worked (full_lattice (first c).args.l (first c).args.st.now) (first c).args.fine (first c).args.coarse
-    c.grid_of-gf.result c.grid_of-gc.result
-    c.value_places-fs.result c.value_places-cs.result = record {
-      paired = (first c).requires.0;
-      fine_is = c.grid_of-gf.ensures;
-      coarse_is = c.grid_of-gc.ensures;
-      values_fine = c.value_places-fs.ensures;
-      values_coarse = c.value_places-cs.ensures;
-    } in
-    let w = levels in
-    let e = ends_of_lem w.paired.coarse_held c.last_ends-es.ensures in
-    (c.maps-maps.ensures.long, e)
+pulls-xs-requires-clause-xs_len c = (c.maps-maps.ensures.long, ends_of_lem c.requires.paired.coarse_held c.last_ends-es.ensures)
 
 pub all_numbers-last-requires-clause-span_of : goal.all_numbers-last-requires-clause-span_of
-all_numbers-last-requires-clause-span_of c = let levels : Worked (full_lattice (first c).args.l (first c).args.st.now) (first c).args.fine (first c).args.coarse
-    c.grid_of-gf.result c.grid_of-gc.result
-    c.value_places-fs.result c.value_places-cs.result = record {
-      paired = (first c).requires.0;
-      fine_is = c.grid_of-gf.ensures;
-      coarse_is = c.grid_of-gc.ensures;
-      values_fine = c.value_places-fs.ensures;
-      values_coarse = c.value_places-cs.ensures;
-    } in
-    let slots : Slotted (full_lattice (first (lines c)).args.l (first (lines c)).args.st.now) (first (lines c)).args.fine (first (lines c)).args.coarse
-    (lines c).before.before.before.grid-of.result (lines c).before.before.grid-of2.result
-    c.places-ps.result c.counts-ns.result = slotted (levels (lines c)) c.counts-ns.ensures c.places-ps.ensures in
-    let pulls : Pulled (full_lattice (first (lines (lists c))).args.l (first (lines (lists c))).args.st.now)
-    (first (lines (lists c))).args.fine (first (lines (lists c))).args.coarse
-    (lines (lists c)).before.before.before.grid-of.result (lines (lists c)).before.before.grid-of2.result
-    (lists c).places.result (lists c).before.before.before.counts.result
-    c.reads-ds.result c.pulls-xs.result = pulled (levels (lines (lists c))) (slots (lists c))
-    c.nodes-nn.ensures
-    c.reads-ds.ensures
-    c.maps-maps.ensures
-    c.last_ends-es.ensures
-    c.pulls-xs.ensures in
-    let q = (first (lines (lists b))).requires in
-    span_of (pulls) q.1.0
+all_numbers-last-requires-clause-span_of c =
+    let levels : Worked (full_lattice c.args.l c.args.st.now) c.args.fine c.args.coarse
+            c.grid_of-gf.result c.grid_of-gc.result c.value_places-fs.result c.value_places-cs.result =
+        record {
+          paired = c.requires.paired;
+          fine_is = c.grid_of-gf.ensures;
+          coarse_is = c.grid_of-gc.ensures;
+          values_fine = c.value_places-fs.ensures;
+          values_coarse = c.value_places-cs.ensures;
+        } in
+    let slots : Slotted (full_lattice c.args.l c.args.st.now) c.args.fine c.args.coarse
+            c.grid_of-gf.result c.grid_of-gc.result c.places-ps.result c.counts-ns.result =
+        slotted levels c.counts-ns.ensures c.places-ps.ensures in
+    let pulls : Pulled (full_lattice c.args.l c.args.st.now) c.args.fine c.args.coarse
+            c.grid_of-gf.result c.grid_of-gc.result c.places-ps.result c.counts-ns.result c.reads-ds.result c.pulls-xs.result =
+        pulled levels slots c.nodes-nn.ensures c.reads-ds.ensures c.maps-maps.ensures c.last_ends-es.ensures c.pulls-xs.ensures in
+    span_of pulls c.requires.room_for
 
 pub all_numbers-last-requires-clause-from_bound : goal.all_numbers-last-requires-clause-from_bound
-all_numbers-last-requires-clause-from_bound c = let levels : Worked (full_lattice (first c).args.l (first c).args.st.now) (first c).args.fine (first c).args.coarse
-    c.grid_of-gf.result c.grid_of-gc.result
-    c.value_places-fs.result c.value_places-cs.result = record {
-      paired = (first c).requires.0;
-      fine_is = c.grid_of-gf.ensures;
-      coarse_is = c.grid_of-gc.ensures;
-      values_fine = c.value_places-fs.ensures;
-      values_coarse = c.value_places-cs.ensures;
-    } in
-    let slots : Slotted (full_lattice (first (lines c)).args.l (first (lines c)).args.st.now) (first (lines c)).args.fine (first (lines c)).args.coarse
-    (lines c).before.before.before.grid-of.result (lines c).before.before.grid-of2.result
-    c.places-ps.result c.counts-ns.result = slotted (levels (lines c)) c.counts-ns.ensures c.places-ps.ensures in
-    let pulls : Pulled (full_lattice (first (lines (lists c))).args.l (first (lines (lists c))).args.st.now)
-    (first (lines (lists c))).args.fine (first (lines (lists c))).args.coarse
-    (lines (lists c)).before.before.before.grid-of.result (lines (lists c)).before.before.grid-of2.result
-    (lists c).places.result (lists c).before.before.before.counts.result
-    c.reads-ds.result c.pulls-xs.result = pulled (levels (lines (lists c))) (slots (lists c))
-    c.nodes-nn.ensures
-    c.reads-ds.ensures
-    c.maps-maps.ensures
-    c.last_ends-es.ensures
-    c.pulls-xs.ensures in
-    let q = (first (lines (lists b))).requires in
-    q.1.1.0
+all_numbers-last-requires-clause-from_bound c = c.requires.k_bound.0
 
--- src/prolongation.rt:86:5
 pub finite_numbers-requires : goal.finite_numbers-requires
 finite_numbers-requires c =
-    let levels : Worked (full_lattice (first c).args.l (first c).args.st.now) (first c).args.fine (first c).args.coarse
-    c.grid_of-gf.result c.grid_of-gc.result
-    c.value_places-fs.result c.value_places-cs.result = record {
-      paired = (first c).requires.0;
-      fine_is = c.grid_of-gf.ensures;
-      coarse_is = c.grid_of-gc.ensures;
-      values_fine = c.value_places-fs.ensures;
-      values_coarse = c.value_places-cs.ensures;
-    } in
-    let slots : Slotted (full_lattice (first (lines c)).args.l (first (lines c)).args.st.now) (first (lines c)).args.fine (first (lines c)).args.coarse
-    (lines c).before.before.before.grid-of.result (lines c).before.before.grid-of2.result
-    c.places-ps.result c.counts-ns.result = slotted (levels (lines c)) c.counts-ns.ensures c.places-ps.ensures in
-    let pulls : Pulled (full_lattice (first (lines (lists c))).args.l (first (lines (lists c))).args.st.now)
-    (first (lines (lists c))).args.fine (first (lines (lists c))).args.coarse
-    (lines (lists c)).before.before.before.grid-of.result (lines (lists c)).before.before.grid-of2.result
-    (lists c).places.result (lists c).before.before.before.counts.result
-    c.reads-ds.result c.pulls-xs.result = pulled (levels (lines (lists c))) (slots (lists c))
-    c.nodes-nn.ensures
-    c.reads-ds.ensures
-    c.maps-maps.ensures
-    c.last_ends-es.ensures
-    c.pulls-xs.ensures in
-    let q = (first (lines (lists b))).requires in
-    weights_room (pulls) _ _ c.all_numbers-last.ensures q.1.1.0 q.1.1.1
+    let levels : Worked (full_lattice c.args.l c.args.st.now) c.args.fine c.args.coarse
+            c.grid_of-gf.result c.grid_of-gc.result c.value_places-fs.result c.value_places-cs.result =
+        record {
+          paired = c.requires.paired;
+          fine_is = c.grid_of-gf.ensures;
+          coarse_is = c.grid_of-gc.ensures;
+          values_fine = c.value_places-fs.ensures;
+          values_coarse = c.value_places-cs.ensures;
+        } in
+    let slots : Slotted (full_lattice c.args.l c.args.st.now) c.args.fine c.args.coarse
+            c.grid_of-gf.result c.grid_of-gc.result c.places-ps.result c.counts-ns.result =
+        slotted levels c.counts-ns.ensures c.places-ps.ensures in
+    let pulls : Pulled (full_lattice c.args.l c.args.st.now) c.args.fine c.args.coarse
+            c.grid_of-gf.result c.grid_of-gc.result c.places-ps.result c.counts-ns.result c.reads-ds.result c.pulls-xs.result =
+        pulled levels slots c.nodes-nn.ensures c.reads-ds.ensures c.maps-maps.ensures c.last_ends-es.ensures c.pulls-xs.ensures in
+    weights_room pulls _ _ c.all_numbers-last.ensures c.requires.k_bound.0 c.requires.k_bound.1
 
 pub returns-clause-values_after : goal.returns-clause-values_after
-returns-clause-values_after c = let levels : Worked (full_lattice (first c).args.l (first c).args.st.now) (first c).args.fine (first c).args.coarse
-    c.grid_of-gf.result c.grid_of-gc.result
-    c.value_places-fs.result c.value_places-cs.result = record {
-      paired = (first c).requires.0;
-      fine_is = c.grid_of-gf.ensures;
-      coarse_is = c.grid_of-gc.ensures;
-      values_fine = c.value_places-fs.ensures;
-      values_coarse = c.value_places-cs.ensures;
-    } in
-    let slots : Slotted (full_lattice (first (lines c)).args.l (first (lines c)).args.st.now) (first (lines c)).args.fine (first (lines c)).args.coarse
-    (lines c).before.before.before.grid-of.result (lines c).before.before.grid-of2.result
-    c.places-ps.result c.counts-ns.result = slotted (levels (lines c)) c.counts-ns.ensures c.places-ps.ensures in
-    let pulls : Pulled (full_lattice (first (lines (lists c))).args.l (first (lines (lists c))).args.st.now)
-    (first (lines (lists c))).args.fine (first (lines (lists c))).args.coarse
-    (lines (lists c)).before.before.before.grid-of.result (lines (lists c)).before.before.grid-of2.result
-    (lists c).places.result (lists c).before.before.before.counts.result
-    c.reads-ds.result c.pulls-xs.result = pulled (levels (lines (lists c))) (slots (lists c))
-    c.nodes-nn.ensures
-    c.reads-ds.ensures
-    c.maps-maps.ensures
-    c.last_ends-es.ensures
-    c.pulls-xs.ensures in
-    let s = pulls in
-    let e = c.all_numbers-last.ensures in
-    weights_laid s _ _ e
+returns-clause-values_after c =
+    let levels : Worked (full_lattice c.args.l c.args.st.now) c.args.fine c.args.coarse
+            c.grid_of-gf.result c.grid_of-gc.result c.value_places-fs.result c.value_places-cs.result =
+        record {
+          paired = c.requires.paired;
+          fine_is = c.grid_of-gf.ensures;
+          coarse_is = c.grid_of-gc.ensures;
+          values_fine = c.value_places-fs.ensures;
+          values_coarse = c.value_places-cs.ensures;
+        } in
+    let slots : Slotted (full_lattice c.args.l c.args.st.now) c.args.fine c.args.coarse
+            c.grid_of-gf.result c.grid_of-gc.result c.places-ps.result c.counts-ns.result =
+        slotted levels c.counts-ns.ensures c.places-ps.ensures in
+    let pulls : Pulled (full_lattice c.args.l c.args.st.now) c.args.fine c.args.coarse
+            c.grid_of-gf.result c.grid_of-gc.result c.places-ps.result c.counts-ns.result c.reads-ds.result c.pulls-xs.result =
+        pulled levels slots c.nodes-nn.ensures c.reads-ds.ensures c.maps-maps.ensures c.last_ends-es.ensures c.pulls-xs.ensures in
+    weights_laid pulls _ _ c.all_numbers-last.ensures
 
 pub returns-clause-value : goal.returns-clause-value
-returns-clause-value c = let levels : Worked (full_lattice (first c).args.l (first c).args.st.now) (first c).args.fine (first c).args.coarse
-    c.grid_of-gf.result c.grid_of-gc.result
-    c.value_places-fs.result c.value_places-cs.result = record {
-      paired = (first c).requires.0;
-      fine_is = c.grid_of-gf.ensures;
-      coarse_is = c.grid_of-gc.ensures;
-      values_fine = c.value_places-fs.ensures;
-      values_coarse = c.value_places-cs.ensures;
-    } in
-    let slots : Slotted (full_lattice (first (lines c)).args.l (first (lines c)).args.st.now) (first (lines c)).args.fine (first (lines c)).args.coarse
-    (lines c).before.before.before.grid-of.result (lines c).before.before.grid-of2.result
-    c.places-ps.result c.counts-ns.result = slotted (levels (lines c)) c.counts-ns.ensures c.places-ps.ensures in
-    let pulls : Pulled (full_lattice (first (lines (lists c))).args.l (first (lines (lists c))).args.st.now)
-    (first (lines (lists c))).args.fine (first (lines (lists c))).args.coarse
-    (lines (lists c)).before.before.before.grid-of.result (lines (lists c)).before.before.grid-of2.result
-    (lists c).places.result (lists c).before.before.before.counts.result
-    c.reads-ds.result c.pulls-xs.result = pulled (levels (lines (lists c))) (slots (lists c))
-    c.nodes-nn.ensures
-    c.reads-ds.ensures
-    c.maps-maps.ensures
-    c.last_ends-es.ensures
-    c.pulls-xs.ensures in
-    let s = pulls in
-    let e = c.all_numbers-last.ensures in
-    c.finite_numbers.ensures ∙ weights_finite s _ _ e (first (lines (lists b))).requires.1.1.1
+returns-clause-value c =
+    let levels : Worked (full_lattice c.args.l c.args.st.now) c.args.fine c.args.coarse
+            c.grid_of-gf.result c.grid_of-gc.result c.value_places-fs.result c.value_places-cs.result =
+        record {
+          paired = c.requires.paired;
+          fine_is = c.grid_of-gf.ensures;
+          coarse_is = c.grid_of-gc.ensures;
+          values_fine = c.value_places-fs.ensures;
+          values_coarse = c.value_places-cs.ensures;
+        } in
+    let slots : Slotted (full_lattice c.args.l c.args.st.now) c.args.fine c.args.coarse
+            c.grid_of-gf.result c.grid_of-gc.result c.places-ps.result c.counts-ns.result =
+        slotted levels c.counts-ns.ensures c.places-ps.ensures in
+    let pulls : Pulled (full_lattice c.args.l c.args.st.now) c.args.fine c.args.coarse
+            c.grid_of-gf.result c.grid_of-gc.result c.places-ps.result c.counts-ns.result c.reads-ds.result c.pulls-xs.result =
+        pulled levels slots c.nodes-nn.ensures c.reads-ds.ensures c.maps-maps.ensures c.last_ends-es.ensures c.pulls-xs.ensures in
+    c.finite_numbers.ensures ∙ weights_finite pulls _ _ c.all_numbers-last.ensures c.requires.k_bound.1

@@ -19,6 +19,10 @@ pub columns_at-k-requires-clause-places_of : goal.columns_at-k-requires-clause-p
 columns_at-k-requires-clause-places_of c = let l = at_low c.requires.limits.0 (omega arith) c.at.ensures in
     c.requires.places_of
 
+pub columns_at-k-requires-clause-component_bound : goal.columns_at-k-requires-clause-component_bound
+columns_at-k-requires-clause-component_bound c = let l = at_low c.requires.limits.0 (omega arith) c.at.ensures in
+    (l.c_low, l.k_low)
+
 pub columns_at-k-requires-clause-i_bound : goal.columns_at-k-requires-clause-i_bound
 columns_at-k-requires-clause-i_bound c = let l = at_low c.requires.limits.0 (omega arith) c.at.ensures in
     (l.i_low, l.j_low)

@@ -13,6 +13,10 @@ pub numbers_at-k-requires-clause-span_of : goal.numbers_at-k-requires-clause-spa
 numbers_at-k-requires-clause-span_of c = let l = at_low c.requires.span_of.fine_in (omega arith) c.at.ensures in
     c.requires.span_of
 
+pub numbers_at-k-requires-clause-component_bound : goal.numbers_at-k-requires-clause-component_bound
+numbers_at-k-requires-clause-component_bound c = let l = at_low c.requires.span_of.fine_in (omega arith) c.at.ensures in
+    (l.c_low, l.k_low)
+
 pub numbers_at-k-requires-clause-i_bound : goal.numbers_at-k-requires-clause-i_bound
 numbers_at-k-requires-clause-i_bound c = let l = at_low c.requires.span_of.fine_in (omega arith) c.at.ensures in
     (l.i_low, l.j_low)

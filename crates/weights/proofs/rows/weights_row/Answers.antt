@@ -10,6 +10,10 @@ pub numbers_at-last-requires-clause-span_of : goal.numbers_at-last-requires-clau
 numbers_at-last-requires-clause-span_of c = let l = at_low c.requires.span_of.fine_in c.requires.r_bound c.at.ensures in
     c.requires.span_of
 
+pub numbers_at-last-requires-clause-component_bound : goal.numbers_at-last-requires-clause-component_bound
+numbers_at-last-requires-clause-component_bound c = let l = at_low c.requires.span_of.fine_in c.requires.r_bound c.at.ensures in
+    (l.c_low, l.k_low)
+
 pub numbers_at-last-requires-clause-i_bound : goal.numbers_at-last-requires-clause-i_bound
 numbers_at-last-requires-clause-i_bound c = let l = at_low c.requires.span_of.fine_in c.requires.r_bound c.at.ensures in
     (l.i_low, l.j_low)

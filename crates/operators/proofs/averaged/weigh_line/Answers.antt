@@ -1,0 +1,10 @@
+-- `operators::averaged::weigh_line` meets its contract.
+-- Assumes nothing.
+use Rattle.operators.proofs.AverageLaws.{count_float, line_is}
+use Rattle.operators.proofs.averaged.weigh_line.Goals as goal
+
+pub int_to_float-count : goal.int_to_float-count
+int_to_float-count c = count_float c.args.p.component c.args.first c.args.last c.requires.limits c.requires.component_bound.2
+
+pub returns : goal.returns
+returns c = line_is _ _ _ _ _ _ _ (record { is = c.through.ensures }) c.sum_of_inverses-inverse.ensures c.real_over-mean.ensures c.add.ensures

@@ -1,0 +1,26 @@
+-- `operators::levels::rediscretized_level` meets its contract: the permittivities are laid first, then the rows are worked out from the lattice of the
+-- level's lines.
+-- Assumes nothing.
+use Rattle.operators.proofs.RediscretizedLists.{own_lattice, lattice_asked, both_finite, one_not}
+use Rattle.operators.proofs.RediscretizedLevel.{both_lines, level_left}
+use Rattle.operators.proofs.levels.rediscretized_level.Goals as goal
+
+pub assembled-sound-requires-clause-limits : goal.assembled-sound-requires-clause-limits
+assembled-sound-requires-clause-limits c = let a = lattice_asked _ _ c.requires.given.limits (both_lines c.requires.given) c.requires.given.chain c.averaged_eps-known.ensures.eps_after (own_lattice _ _ _ _ c.rediscretized_lattice-lc.ensures c.rediscretized_stretches-sc.ensures.result_value) in
+    a.0
+
+pub assembled-sound-requires-clause-from_bound : goal.assembled-sound-requires-clause-from_bound
+assembled-sound-requires-clause-from_bound c = let a = lattice_asked _ _ c.requires.given.limits (both_lines c.requires.given) c.requires.given.chain c.averaged_eps-known.ensures.eps_after (own_lattice _ _ _ _ c.rediscretized_lattice-lc.ensures c.rediscretized_stretches-sc.ensures.result_value) in
+    a.1
+
+pub assembled-sound-requires-clause-s_bound : goal.assembled-sound-requires-clause-s_bound
+assembled-sound-requires-clause-s_bound c = let a = lattice_asked _ _ c.requires.given.limits (both_lines c.requires.given) c.requires.given.chain c.averaged_eps-known.ensures.eps_after (own_lattice _ _ _ _ c.rediscretized_lattice-lc.ensures c.rediscretized_stretches-sc.ensures.result_value) in
+    (c.requires.starts_low, c.requires.low)
+
+pub returns-then-known : goal.returns-then-known
+returns-then-known c =
+    level_left c.averaged_eps-known.ensures.eps_after (own_lattice _ _ _ _ c.rediscretized_lattice-lc.ensures c.rediscretized_stretches-sc.ensures.result_value) c.averaged_eps-known.ensures.value c.assembled-sound.ensures.laid_rows c.assembled-sound.ensures.value (λ v w p q. both_finite p q c.if-known.true)
+
+pub returns-else-known : goal.returns-else-known
+returns-else-known c =
+    level_left c.averaged_eps-known.ensures.eps_after (own_lattice _ _ _ _ c.rediscretized_lattice-lc.ensures c.rediscretized_stretches-sc.ensures.result_value) c.averaged_eps-known.ensures.value c.assembled-sound.ensures.laid_rows c.assembled-sound.ensures.value (λ v w p q. one_not p q c.if-known.false)
