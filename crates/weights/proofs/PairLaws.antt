@@ -16,7 +16,7 @@ use Rattle.numbers.specs.Lists.{Rises}
 use Rattle.lattice.proofs.GridLaws.{axis_both}
 use Rattle.lattice.proofs.LevelLaws.{line_over, three_held}
 use Rattle.lattice.proofs.Equations.{n_of_0, n_of_1, n_of_2, cells_at_is}
-use Rattle.lattice.proofs.NestLaws.{cells_some, line_ends, nodes_end, nodes_low, nodes_below, nodes_most, coarser_among, cells_fewer, line_among, three_ends}
+use Rattle.lattice.proofs.NestLaws.{cells_some, nodes_end, nodes_low, nodes_below, nodes_most, coarser_among, cells_fewer, line_among, three_ends}
 use Rattle.weights.proofs.Equations.{fine_line_0, fine_line_1, fine_line_2, coarse_line_0, coarse_line_1, coarse_line_2}
 use Rattle.weights.specs.Tables.{HeldThree, Paired}
 use Rattle.weights.specs.TwoLevels.{fine_line, coarse_line, fine_cells, coarse_cells, node_on, grid_with, fine_grid, coarse_grid, two_at, two_of}

@@ -17,7 +17,7 @@ use Rattle.numbers.specs.Lists.{tabulate, each, Laid, entry_at}
 use Rattle.numbers.proofs.TabulateLaws.{length_tabulate}
 use Rattle.lattice.proofs.GridLaws.{at_inside}
 use Rattle.numbers.proofs.TermLaws.{each_most}
-use Rattle.numbers.proofs.RowLoops.{Going, going_start, going_turn, going_end, going_same, Starting, starting_start, starting_turn, starting_end}
+use Rattle.numbers.proofs.RowLoops.{Going, going_start, going_turn, going_end}
 use Rattle.numbers.proofs.LoopLaws.{each_tabulate}
 use Rattle.weights.specs.declared.rows.Pull.{Pull}
 use Rattle.weights.specs.declared.rows.Span.{Span}

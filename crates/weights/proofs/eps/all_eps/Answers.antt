@@ -1,4 +1,3 @@
-use Prim.Native.Nat.{◌-◌}
 use mathlib.Core.Path.{refl}
 use native.Mathlib.Omega.{arith}
 use Rattle.weights.proofs.EpsLaws.{chaining_start, chaining_turn, chaining_end, chaining_room}

@@ -1,6 +1,5 @@
 -- `weights::eps::all_eps` meets its contract. The invariant (`Chaining`): laying the rest gives the whole, and what is read is as it was.
 -- Assumes nothing.
-use Prim.Native.Nat.{◌-◌}
 use Rattle.weights.specs.Tables.{coarse_eps_in}
 use Rattle.numbers.specs.Lists.{read_from}
 use Rattle.weights.proofs.EpsLaws.{Chaining}

@@ -1,5 +1,4 @@
 use Prim.Native.Nat.{◌+◌}
-use Prim.Native.Nat.{◌-◌}
 use native.Mathlib.Omega.{arith}
 use Rattle.numbers.proofs.FlagLaws.{unflagged_start, unflagged_turn, unflagged_stop, unflagged_end}
 use Rattle.weights.proofs.EpsLaws.{along_inside}

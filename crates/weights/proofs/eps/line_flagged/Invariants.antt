@@ -1,6 +1,5 @@
 -- `weights::eps::line_flagged` meets its contract. The invariant (`Unflagged`): the rest has a flag just where the whole has one.
 -- Assumes nothing.
-use Prim.Native.Nat.{◌-◌}
 use Rattle.weights.specs.CoarseEps.{edge_along}
 use Rattle.numbers.proofs.FlagLaws.{Unflagged}
 use Rattle.weights.proofs.eps.line_flagged.Given as goal

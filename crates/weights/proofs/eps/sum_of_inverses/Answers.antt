@@ -1,4 +1,3 @@
-use Prim.Native.Nat.{◌-◌}
 use native.Mathlib.Omega.{arith}
 use Rattle.lattice.proofs.GridLaws.{unknowns_most}
 use Rattle.weights.proofs.EpsLaws.{adding_start, adding_turn, adding_end, along_inside, along_low}

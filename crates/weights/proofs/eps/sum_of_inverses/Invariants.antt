@@ -1,6 +1,5 @@
 -- `weights::eps::sum_of_inverses` meets its contract. The invariant (`Adding`): the sum of the rest comes to the whole.
 -- Assumes nothing.
-use Prim.Native.Nat.{◌-◌}
 use Rattle.weights.proofs.EpsLaws.{Adding}
 use Rattle.weights.proofs.eps.sum_of_inverses.Given as goal
 

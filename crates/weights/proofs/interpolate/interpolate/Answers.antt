@@ -15,9 +15,9 @@ ratio_at-t-requires-clause-by_index c = c.requires.by_index
 
 pub ratio_at-t-requires-clause-h_le_n : goal.ratio_at-t-requires-clause-h_le_n
 ratio_at-t-requires-clause-h_le_n c = (
-          c.up_to-h.ensures.1,
-          c.requires.p_lt_map_points,
-        )
+  c.up_to-h.ensures.1,
+  c.requires.p_lt_map_points,
+)
 
 pub returns : goal.returns
 returns c =

@@ -1,6 +1,5 @@
 use Rattle.weights.proofs.InterpolateLaws.{reached_start, reached_turn, reached_is, reached_end}
 use native.Mathlib.Omega.{arith}
-use Prim.Native.Nat.{◌-◌}
 use Rattle.weights.proofs.interpolate.up_to.Goals as goal
 
 pub loop-m-init : goal.loop-m-init

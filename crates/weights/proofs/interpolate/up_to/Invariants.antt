@@ -1,5 +1,4 @@
 use Rattle.weights.proofs.InterpolateLaws.{Reached}
-use Prim.Native.Nat.{◌-◌}
 use Rattle.weights.proofs.interpolate.up_to.Given as goal
 
 abbrev pub invariant-loop-m : goal.invariant-loop-m

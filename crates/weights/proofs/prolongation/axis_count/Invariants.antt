@@ -1,6 +1,5 @@
 -- `weights::prolongation::axis_count` meets its contract. The invariant (`Summing`): the sum is that of the places so far.
 -- Assumes nothing.
-use Prim.Native.Nat.{◌-◌}
 use Rattle.weights.specs.Tables.{slot_count}
 use Rattle.numbers.proofs.SumLaws.{Summing}
 use Rattle.weights.proofs.prolongation.axis_count.Given as goal

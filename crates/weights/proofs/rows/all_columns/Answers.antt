@@ -1,4 +1,3 @@
-use Prim.Native.Nat.{◌-◌}
 use native.Mathlib.Omega.{arith}
 use Rattle.lattice.specs.Grid.{unknowns_of}
 use Rattle.lattice.proofs.GridLaws.{unknowns_most}

@@ -1,4 +1,4 @@
-use Prim.Native.Nat.{◌-◌, ◌≤◌}
+use Prim.Native.Nat.{◌≤◌}
 use Rattle.lattice.specs.Grid.{at_of}
 use Rattle.numbers.specs.Places.{set_number}
 use Rattle.weights.specs.Tables.{numbers_in}
@@ -7,5 +7,5 @@ use Rattle.numbers.proofs.RowLoops.{Going}
 use Rattle.weights.proofs.rows.all_numbers.Given as goal
 
 abbrev pub invariant-loop-r : goal.invariant-loop-r
-invariant-loop-r l = 
+invariant-loop-r l =
     (l.n ≤ 12288) × Going set_number (numbers_in l.s.fine l.s.coarse (read_from l.eps l.s.feps) (read_from l.eps l.s.ceps) l.ps l.ds l.ns l.xs) (at_of l.s.fine) 8 l.n l.from l.initial.values l.values l.k l.r

@@ -1,4 +1,3 @@
-use Prim.Native.Nat.{◌-◌}
 use lib.ListN.{set}
 use Rattle.numbers.specs.Lists.{entry_at}
 use Rattle.weights.specs.Tables.{columns_in_z}

@@ -1,4 +1,3 @@
-use Prim.Native.Nat.{◌-◌}
 use lib.ListN.{set}
 use Rattle.weights.specs.Product.{column_in}
 use Rattle.numbers.specs.Lists.{entry_at}

@@ -1,6 +1,6 @@
 -- `weights::tables::counts` meets its contract. The invariant: the first q counts are filled, zeros behind them.
 -- Assumes nothing.
-use Prim.Native.Nat.{◌-◌, ◌≤◌}
+use Prim.Native.Nat.{◌≤◌}
 use Rattle.lattice.specs.Lattice.{full_lattice}
 use Rattle.numbers.proofs.TabulateLaws.{Filled}
 use Rattle.weights.specs.Tables.{count_from}

@@ -1,6 +1,6 @@
 -- `weights::tables::lay_map` meets its contract. The invariant (`Spread`): the numbers from p on, laid from there on, come to the whole.
 -- Assumes nothing.
-use Prim.Native.Nat.{◌-◌, ◌*◌, ◌≤◌}
+use Prim.Native.Nat.{◌*◌, ◌≤◌}
 use mathlib.Core.Path.{◌≡◌}
 use lib.ListN.{length}
 use Rattle.numbers.specs.Places.{set_number}

@@ -1,6 +1,6 @@
 -- `weights::tables::lay_nodes` meets its contract. The invariant (`Spread`): the nodes from m on, laid from there on, come to the whole.
 -- Assumes nothing.
-use Prim.Native.Nat.{◌-◌, ◌*◌, ◌≤◌}
+use Prim.Native.Nat.{◌*◌, ◌≤◌}
 use mathlib.Core.Path.{◌≡◌}
 use lib.ListN.{length, set}
 use Rattle.numbers.proofs.RowLoops.{Spread}

@@ -1,6 +1,6 @@
 -- `weights::tables::places` meets its contract. The invariant: the first e places are filled, zeros behind them.
 -- Assumes nothing.
-use Prim.Native.Nat.{◌-◌, ◌≤◌}
+use Prim.Native.Nat.{◌≤◌}
 use Rattle.lattice.specs.Lattice.{full_lattice}
 use Rattle.numbers.proofs.TabulateLaws.{Filled}
 use Rattle.weights.specs.Tables.{place_from}

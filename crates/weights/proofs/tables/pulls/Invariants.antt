@@ -1,6 +1,6 @@
 -- `weights::tables::pulls` meets its contract. The invariant (`NumbersTo`): the first e numbers are there.
 -- Assumes nothing.
-use Prim.Native.Nat.{◌-◌, ◌≤◌}
+use Prim.Native.Nat.{◌≤◌}
 use Rattle.lattice.specs.Lattice.{full_lattice}
 use Rattle.weights.specs.Tables.{pull_from}
 use Rattle.numbers.proofs.RowLoops.{NumbersTo}

@@ -1,6 +1,6 @@
 -- `weights::tables::reads` meets its contract. The invariant: the first e places are filled, zeros behind them.
 -- Assumes nothing.
-use Prim.Native.Nat.{◌-◌, ◌≤◌}
+use Prim.Native.Nat.{◌≤◌}
 use Rattle.numbers.proofs.TabulateLaws.{Filled}
 use Rattle.weights.specs.Tables.{node_from}
 use Rattle.weights.proofs.tables.reads.Given as goal

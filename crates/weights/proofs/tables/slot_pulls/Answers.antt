@@ -50,9 +50,10 @@ returns c =
     let q = c.args.q in
     let w = c.slot_wall-wall in
     let free : (w.result && eqb (q % 64) 0) ≡ false =
-        elim c.else-wall.branch [
-          else-wall-via-then-wall+else-i-eq0 u ↦ free_inside w.result (q % 64) (ne_eqb _ _ u.if-i-eq0.false)
-        | else-wall-via-else-wall u ↦ free_open w.result (q % 64) u.if-wall.false ] in
+    elim c.else-wall.branch [
+      | else-wall-via-then-wall+else-i-eq0 u ↦ free_inside w.result (q % 64) (ne_eqb _ _ u.if-i-eq0.false)
+      | else-wall-via-else-wall u ↦ free_open w.result (q % 64) u.if-wall.false
+    ] in
     c.interpolate.ensures
     ∙ ap pulls_of
     (pulled_free _ _ _ _ _ _ _ _ (omega (arith, c.n.ensures)) w.ensures free

@@ -1,6 +1,6 @@
 -- `weights::tables::value_places` meets its contract. The invariant: the first q places are filled, zeros behind them.
 -- Assumes nothing.
-use Prim.Native.Nat.{◌-◌, ◌≤◌}
+use Prim.Native.Nat.{◌≤◌}
 use Rattle.numbers.proofs.TabulateLaws.{Filled}
 use Rattle.weights.specs.Tables.{value_entry, lines_in}
 use Rattle.weights.proofs.tables.value_places.Given as goal
