@@ -7,7 +7,7 @@ ghost use Rattle.lattice.specs.Lattice.{full_lattice};
 ghost use Rattle.lattice.specs.Levels.{depth_of};
 ghost use Rattle.operators.specs.LevelLists.{edges_on};
 ghost use Rattle.store.specs.Store.{lent};
-ghost use Rattle.store.specs.Setup.{result, input_of};
+ghost use Rattle.store.specs.Setup.{result_of, input_of};
 ghost use Rattle.store.specs.Calls.{change_of};
 ghost use Rattle.store.specs.Phases.{HasLines};
 ghost use Rattle.store.specs.Renewed.{fixed, five, Shaped, FiveRoom};
@@ -27,7 +27,7 @@ use store::{Choice, setup};
 
 // Whether nothing is refused.
 fn passes(a: Changed) -> bool
-    ensures* { λ r. ⌜ r ≡ is_sound (changed_of a) ⌝ }
+    ensures { result ≡ is_sound (changed_of a) }
 {
     match a {
         Changed::Answered(b) => setup::goes_on(b),
@@ -40,7 +40,7 @@ fn passes(a: Changed) -> bool
 // Refusals 9 and 10.
 fn edit(l: Lattice, edge: usize, value: C64) -> Changed
     requires { Limits l.grid }
-    ensures* { λ r. ⌜ changed_of r ≡ edit_verdict l edge value ⌝ }
+    ensures { changed_of result ≡ edit_verdict l edge value }
 {
     let n = grid::unknowns(l.grid);
     let bad = check::bad_number(value);
@@ -83,11 +83,11 @@ fn renew(
     requires shaped { Shaped (full_lattice l st.now) choice m (fixed starts.now columns.now tstarts.now tcolumns.now ostarts.now ocolumns.now) }
     requires five_room { FiveRoom (full_lattice l st.now) choice m (five eps.old values.old tvalues.old ovalues.old scaling.old) }
     requires edge_bound { edge < edges_on (full_lattice l st.now) 0 }
-    ensures* { λ r. ⌜ EdgeRenewed (full_lattice l st.now) choice m
+    ensures { EdgeRenewed (full_lattice l st.now) choice m
         (fixed starts.now columns.now tstarts.now tcolumns.now ostarts.now ocolumns.now)
         (change_to edge value)
-        (five eps.old values.old tvalues.old ovalues.old scaling.old) r
-        (five eps.new values.new tvalues.new ovalues.new scaling.new) ⌝ }
+        (five eps.old values.old tvalues.old ovalues.old scaling.old) result
+        (five eps.new values.new tvalues.new ovalues.new scaling.new) }
 {
     let mut flags = [0u64; 14976];
     hits::raise_flags(
@@ -130,11 +130,11 @@ fn settle(
 ) -> Changed
     requires limits { Limits l.grid }
     requires value_value { is_sound (edit_verdict l edge value) ≡ true }
-    ensures* { λ r. ⌜ result (changed_of r) (lent ends.now eps.new starts.now columns.now values.new
+    ensures { result_of (changed_of result) (lent ends.now eps.new starts.now columns.now values.new
         tstarts.now tcolumns.now tvalues.new ostarts.now ocolumns.now ovalues.new scaling.new)
         ≡ changed_behind (full_lattice l st.now) choice coarsest (lent ends.now eps.old starts.now
         columns.now values.old tstarts.now tcolumns.now tvalues.old ostarts.now
-        ocolumns.now ovalues.old scaling.old) (change_to edge value) ⌝ }
+        ocolumns.now ovalues.old scaling.old) (change_to edge value) }
 {
     let found = levels::join_lines(l, st, coarsest);
     let depth = found.depth;
@@ -203,12 +203,12 @@ pub fn change(
     ovalues: &mut [f64],
     scaling: &mut [f64],
 ) -> Changed
-    ensures* { λ r. ⌜ result (changed_of r) (lent ends.now eps.new starts.now columns.now values.new
+    ensures { result_of (changed_of result) (lent ends.now eps.new starts.now columns.now values.new
         tstarts.now tcolumns.now tvalues.new ostarts.now ocolumns.now ovalues.new scaling.new)
         ≡ change_of (input_of v xn.now xh.now yn.now yh.now zn.now zh.now choice coarsest)
         (lent ends.now eps.old starts.now
         columns.now values.old tstarts.now tcolumns.now tvalues.old ostarts.now
-        ocolumns.now ovalues.old scaling.old) (change_to edge value) ⌝ }
+        ocolumns.now ovalues.old scaling.old) (change_to edge value) }
 {
     let c = check::check_stretches(v, xn, xh, yn, yh, zn, zh);
     if !check::is_sound(c) {

@@ -13,7 +13,7 @@ use Rattle.numbers.specs.declared.C64.{C64}
 use Rattle.numbers.specs.Places.{set_number}
 use Rattle.lattice.specs.declared.lattice.Lattice.{Lattice}
 use Rattle.store.specs.Store.{Store}
-use Rattle.store.specs.Setup.{Input, result, input_of, setup_of}
+use Rattle.store.specs.Setup.{Input, result_of, input_of, setup_of}
 use Rattle.store.specs.Steps.{answer_of}
 use Rattle.store.specs.Calls.{change_of}
 use Rattle.store.specs.ChangeSteps.{changed_of, change_to}
@@ -45,7 +45,7 @@ module _ (r : Reader) (held : List Float) (s : Store) where
   -- d: the reader with the choice; a: what the setup answers
   pub setup_ran : {n : ℕ} {u d : Reader} {t : Told} {after : Store} {i : Input} {g : List Float} (a : Answer)
       → n ≡ get_or r.body 0 0 → n ≤ 1 → d ≡ choice_read r → i ≡ input_read d.seen held → g ≡ given_read d.seen held
-      → result (answer_of a) after ≡ setup_of i g s → t ≡ told_by (answer_of a) → u ≡ answered d t
+      → result_of (answer_of a) after ≡ setup_of i g s → t ≡ told_by (answer_of a) → u ≡ answered d t
       → machine u held after ≡ setup_run r held s
   unfolding setup_run choice_read given_read
   setup_ran {n} {u} {d} {t} {after} {i} {g} a e h k p q w b f =
@@ -58,7 +58,7 @@ module _ (r : Reader) (held : List Float) (s : Store) where
 
   pub change_ran : {u : Reader} {t : Told} {after : Store} {i : Input} {k : ℕ} {v : C64} (a : Changed)
       → i ≡ input_read r.seen held → k ≡ word32 r.body 0 → v ≡ pair_at r.body 4
-      → result (changed_of a) after ≡ change_of i s (change_to k v) → t ≡ told_by (changed_of a) → u ≡ answered r t
+      → result_of (changed_of a) after ≡ change_of i s (change_to k v) → t ≡ told_by (changed_of a) → u ≡ answered r t
       → machine u held after ≡ change_run r held s
   unfolding change_run
   change_ran {u} {t} {after} a p e q w b f =

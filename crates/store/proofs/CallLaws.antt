@@ -22,7 +22,7 @@ use Rattle.store.specs.Layout.{Enough}
 use Rattle.store.specs.declared.Choice.{Choice}
 use Rattle.store.specs.Rows.{rules, full}
 use Rattle.store.specs.Changes.{Change, Why, NoEdge, BadValue, changes}
-use Rattle.store.specs.Setup.{Input, full_of, transfers_of, Result, result, unless, all_to, short_of, levels_of, structure_of}
+use Rattle.store.specs.Setup.{Input, full_of, transfers_of, Result, result_of, unless, all_to, short_of, levels_of, structure_of}
 use Rattle.store.specs.Load.{load}
 use Rattle.store.specs.Work.{Structured}
 use Rattle.store.specs.Calls.{level_matches, why_verdict, bad_verdict, settled, planned_of, change_of, Told, told, noted}
@@ -96,7 +96,7 @@ module _ (i : Input) (b : Store) where
       let z = settled (suc m) o.answer o.store 0 (zeroed b) in
       unless_sound (check eps) b (unless (structure_of i (sizes b)) (zeroed b) z) x ∙ unless_sound (structure_of i (sizes b)) (zeroed b) z y
 
-  pub planned_is : (eps : List Float) → Fine eps → planned_of i eps b ≡ result (accepted (suc m)) (set_up (rules l ch m) Why (load l ch m b eps)).store
+  pub planned_is : (eps : List Float) → Fine eps → planned_of i eps b ≡ result_of (accepted (suc m)) (set_up (rules l ch m) Why (load l ch m b eps)).store
   planned_is eps f = planned_past eps f.checked f.structure ∙ rw f.done refl
 
   pub limits_of : (eps : List Float) → is_sound (check eps) ≡ true → Limits l.grid
@@ -169,10 +169,10 @@ module _ (i : Input) (b : Store) where
           ∙ unless_sound (all_to 11 (level_matches l ch m here) (suc m)) here asked (ap is_sound (nothing_differs l ch m here here_structured))
 
       -- and one that is refused before that leaves the store
-      change_stops : (why : Why) → (changes l).bad c ≡ some why → change_of i here c ≡ result (why_verdict why c.edge) here
+      change_stops : (why : Why) → (changes l).bad c ≡ some why → change_of i here c ≡ result_of (why_verdict why c.edge) here
       change_stops why g = change_from ∙ rw g (go why)
         where
-          go : (y : Why) → unless (why_verdict y c.edge) here (unless (structure_of i (sizes here)) here differs) ≡ result (why_verdict y c.edge) here
+          go : (y : Why) → unless (why_verdict y c.edge) here (unless (structure_of i (sizes here)) here differs) ≡ result_of (why_verdict y c.edge) here
           go NoEdge = refl
           go BadValue = refl
 
@@ -181,10 +181,10 @@ module _ (i : Input) (b : Store) where
 
       -- what is to be shown of a change, the book's list after it being xs
       abbrev pub Step : Verdict → List Float → Type 0
-      Step w xs = ((change_of i here c).verdict ≡ w) × (planned_of i xs b ≡ result (accepted (suc m)) (change_of i here c).store)
+      Step w xs = ((change_of i here c).verdict ≡ w) × (planned_of i xs b ≡ result_of (accepted (suc m)) (change_of i here c).store)
 
       stays : (why : Why) → (changes l).bad c ≡ some why → Step (why_verdict why c.edge) eps
-      stays why g = let z = change_stops why g in (ap (λ (r : Result). r.verdict) z, planned_is eps f ∙ ap (λ (r : Result). result (accepted (suc m)) r.store) (sym z))
+      stays why g = let z = change_stops why g in (ap (λ (r : Result). r.verdict) z, planned_is eps f ∙ ap (λ (r : Result). result_of (accepted (suc m)) r.store) (sym z))
 
       -- the plan's answer is that of a setup from the copy
       answer_same : (changes l).bad c ≡ none → new.answer ≡ (set_up (rules l ch m) Why (load l ch m b copied)).answer
@@ -224,17 +224,17 @@ module _ (i : Input) (b : Store) where
           go none z =
               let a : (set_up (rules l ch m) Why (load l ch m b copied)).answer ≡ Done = answer_of_lem none z in
               let x : new.answer ≡ Done = answer_same g ∙ a in
-              let y : change_of i here c ≡ result (accepted (suc m)) new.store = change_past g ∙ ap (λ (q : Answer Why). settled (suc m) q new.store c.edge here) x in
-              let u : planned_of i copied b ≡ result (accepted (suc m)) new.store = planned_is copied (fine_copy g k a) ∙ ap (λ (t : Store). result (accepted (suc m)) t) (store_same g a) in
+              let y : change_of i here c ≡ result_of (accepted (suc m)) new.store = change_past g ∙ ap (λ (q : Answer Why). settled (suc m) q new.store c.edge here) x in
+              let u : planned_of i copied b ≡ result_of (accepted (suc m)) new.store = planned_is copied (fine_copy g k a) ∙ ap (λ (t : Store). result_of (accepted (suc m)) t) (store_same g a) in
               let v : (planned_of i copied b).verdict ≡ accepted (suc m) = ap (λ (r : Result). r.verdict) u in
-              rw v (ap (λ (r : Result). r.verdict) y, u ∙ ap (λ (r : Result). result (accepted (suc m)) r.store) (sym y))
+              rw v (ap (λ (r : Result). r.verdict) y, u ∙ ap (λ (r : Result). result_of (accepted (suc m)) r.store) (sym y))
           go (some L) z =
               let a : (set_up (rules l ch m) Why (load l ch m b copied)).answer ≡ NotFinite L = answer_of_lem (some L) z in
               let x : new.answer ≡ NotFinite L = answer_same g ∙ a in
-              let y : change_of i here c ≡ result (refused 7 L) here = change_past g ∙ ap (λ (q : Answer Why). settled (suc m) q new.store c.edge here) x in
+              let y : change_of i here c ≡ result_of (refused 7 L) here = change_past g ∙ ap (λ (q : Answer Why). settled (suc m) q new.store c.edge here) x in
               let v : (planned_of i copied b).verdict ≡ refused 7 L =
               ap (λ (r : Result). r.verdict) (planned_past copied k f.structure ∙ ap (λ (q : Answer Why). settled (suc m) q (set_up (rules l ch m) Why (load l ch m b copied)).store 0 (zeroed b)) a) in
-              rw v (ap (λ (r : Result). r.verdict) y, planned_is eps f ∙ ap (λ (r : Result). result (accepted (suc m)) r.store) (sym y))
+              rw v (ap (λ (r : Result). r.verdict) y, planned_is eps f ∙ ap (λ (r : Result). result_of (accepted (suc m)) r.store) (sym y))
 
       -- a number that is not finite, or zero: the setup's 4 is the change's 10
       spoils : (changes l).bad c ≡ some BadValue → (p : ℕ) → check copied ≡ entry_refused p

@@ -37,7 +37,7 @@ use Rattle.operators.specs.Stencil.{shift_number, shift_terms, stencil_row}
 use Rattle.operators.specs.Volumes.{inverse_of, inverse_share, share_finite, share_of, shares_finite, side_of, volume_at, volume_of, weighted}
 use Rattle.store.specs.Cases.{ends_left, forward_columns_left, forward_starts_left, forward_values_left, four_cells, galerkin_columns_left, galerkin_left, galerkin_lent, galerkin_rows, galerkin_values_left, ones, reals, rediscretized_columns_left, rediscretized_left, rediscretized_lent, rediscretized_rows, rediscretized_values_left, scaling_left, setting, seven_numbers, sevens, table, turned_columns_left, turned_starts_left, turned_values_left}
 use Rattle.store.specs.Layout.{forward_cols, operator_cols, turned_cols}
-use Rattle.store.specs.Setup.{Input, Result, all_to, filled, full_of, level_fine, result, setup_of, short_of, structure_of, transfer_fine, transfers_of, unless}
+use Rattle.store.specs.Setup.{Input, Result, all_to, filled, full_of, level_fine, result_of, setup_of, short_of, structure_of, transfer_fine, transfers_of, unless}
 
 -- all that a setup computes with: to open it opens them
 unfoldable computing : Unit {0}
@@ -75,7 +75,7 @@ module _ (i : Input) (eps : List Float) (s : Store) where
   IsFine n = all_to 7 (level_fine (full_of i) i.choice (transfers_of i) (number_at eps)) (suc (transfers_of i)) ≡ accepted n
 
   abbrev laid_out : Result
-  laid_out = result (accepted (suc (transfers_of i))) (filled (full_of i) i.choice (transfers_of i) (number_at eps) s)
+  laid_out = result_of (accepted (suc (transfers_of i))) (filled (full_of i) i.choice (transfers_of i) (number_at eps) s)
 
   -- a setup that nothing refuses
   taken : Checks 0 → Fits 0 → IsFine 0 → setup_of i eps s ≡ laid_out
@@ -94,16 +94,16 @@ galerkin_fine : IsFine (four_cells Galerkin) (ones 12) galerkin_lent 0
 unfolding computing
 galerkin_fine = refl
 
-galerkin_left_lem : laid_out (four_cells Galerkin) (ones 12) galerkin_lent ≡ result (accepted 2) galerkin_left
+galerkin_left_lem : laid_out (four_cells Galerkin) (ones 12) galerkin_lent ≡ result_of (accepted 2) galerkin_left
 unfolding computing
 galerkin_left_lem = refl
 
 -- 4, 1, 1 CELLS, GALERKIN: ACCEPTED, WITH TWO LEVELS
-pub galerkin_set_up : setup_of (four_cells Galerkin) (ones 12) galerkin_lent ≡ result (accepted 2) galerkin_left
+pub galerkin_set_up : setup_of (four_cells Galerkin) (ones 12) galerkin_lent ≡ result_of (accepted 2) galerkin_left
 galerkin_set_up = taken (four_cells Galerkin) (ones 12) galerkin_lent galerkin_checks galerkin_fits galerkin_fine ∙ galerkin_left_lem
 
 -- AND REDISCRETIZED
-pub rediscretized_set_up : setup_of (four_cells Rediscretized) (ones 12) rediscretized_lent ≡ result (accepted 2) rediscretized_left
+pub rediscretized_set_up : setup_of (four_cells Rediscretized) (ones 12) rediscretized_lent ≡ result_of (accepted 2) rediscretized_left
 unfolding computing
 rediscretized_set_up = refl
 
@@ -111,11 +111,11 @@ rediscretized_set_up = refl
 
 galerkin_right : Right galerkin_rows
 unfolding galerkin_rows
-galerkin_right = rows_right (setup_of (four_cells Galerkin) (ones 12) galerkin_lent) (result (accepted 2) galerkin_left) galerkin_set_up
+galerkin_right = rows_right (setup_of (four_cells Galerkin) (ones 12) galerkin_lent) (result_of (accepted 2) galerkin_left) galerkin_set_up
 
 rediscretized_right : Right rediscretized_rows
 unfolding rediscretized_rows
-rediscretized_right = rows_right (setup_of (four_cells Rediscretized) (ones 12) rediscretized_lent) (result (accepted 2) rediscretized_left) rediscretized_set_up
+rediscretized_right = rows_right (setup_of (four_cells Rediscretized) (ones 12) rediscretized_lent) (result_of (accepted 2) rediscretized_left) rediscretized_set_up
 
 pub all_cases : map (λ (c : Case). c.computed) table ≡ map (λ (c : Case). c.expected) table
 unfolding table

@@ -31,7 +31,7 @@ use Rattle.store.specs.Spots.{permittivity, spot, cells, part_of, double_of, lai
 use Rattle.store.specs.Plan.{run, first_bad, reached}
 use Rattle.store.specs.Book.{Answer, Done, Bad, NotFinite, Outcome, outcome, settle, gate, change}
 use Rattle.store.specs.Layout.{Enough}
-use Rattle.store.specs.Setup.{Input, full_of, Result, result, unless, all_to, names_once, short_of}
+use Rattle.store.specs.Setup.{Input, full_of, Result, result_of, unless, all_to, names_once, short_of}
 use Rattle.store.specs.Steps.{m_of, structure_by}
 use Rattle.store.specs.FillSteps.{FirstBad}
 use Rattle.store.specs.Rows.{Row, rules}
@@ -222,11 +222,11 @@ module _ (l : FullLattice) (ch : Choice) (coarsest : ℕ) (b : Store) (c : Chang
   unfolding structure_by
   found_is = found ∙ ap (λ (u : Verdict). and_then (and_then u (all_to 8 (names_once l) (count_of u - 1))) (and_then (short_of l ch (count_of u - 1) (sizes b)) (accepted (suc (count_of u - 1))))) depth
 
-  pub changed_refused : is_sound v ≡ false → result v b ≡ changed_behind l ch coarsest b c
+  pub changed_refused : is_sound v ≡ false → result_of v b ≡ changed_behind l ch coarsest b c
   unfolding changed_behind
   changed_refused e =
       let q : v ≡ and_then levels short = found_is ∙ sym (and_last levels short (suc (m_of l coarsest)) (ap is_sound (sym found_is) ∙ e)) in
-      ap (λ (u : Verdict). result u b) q ∙ unless_refused (and_then levels short) b _ (ap is_sound (sym q) ∙ e)
+      ap (λ (u : Verdict). result_of u b) q ∙ unless_refused (and_then levels short) b _ (ap is_sound (sym q) ∙ e)
 
   module _ (e : is_sound v ≡ true) where
     abbrev rest : Result
@@ -262,7 +262,7 @@ module _ (l : FullLattice) (ch : Choice) (coarsest : ℕ) (b : Store) (c : Chang
       eleven : all_to 11 (level_matches l ch (m_of l coarsest) b) (suc (m_of l coarsest)) ≡ cond (ltb r (suc m)) (refused 11 r) (accepted 0)
       eleven = ap (λ (k : ℕ). all_to 11 (level_matches l ch k b) (suc k)) (sym m_is) ∙ sym (all_match l ch m b (suc m)) ∙ first.verdict
 
-      pub changed_differs : r ≤ m → result (refused 11 r) b ≡ changed_behind l ch coarsest b c
+      pub changed_differs : r ≤ m → result_of (refused 11 r) b ≡ changed_behind l ch coarsest b c
       changed_differs h =
           let q : all_to 11 (level_matches l ch (m_of l coarsest) b) (suc (m_of l coarsest)) ≡ refused 11 r = eleven ∙ ap (λ (t : Bool). cond t (refused 11 r) (accepted 0)) (lt-ltb r (suc m) (omega arith)) in
           sym (goes.0 ∙ ap (λ (u : Verdict). unless u b (settled (suc (m_of l coarsest)) (change (rules l ch (m_of l coarsest)) (changes l) b c).answer (change (rules l ch (m_of l coarsest)) (changes l) b c).store c.edge b)) q)
@@ -285,16 +285,16 @@ module _ (l : FullLattice) (ch : Choice) (coarsest : ℕ) (b : Store) (c : Chang
               ∙ ap (λ (u : Verdict). unless u b (settled (suc (m_of l coarsest)) (change (rules l ch (m_of l coarsest)) (changes l) b c).answer (change (rules l ch (m_of l coarsest)) (changes l) b c).store c.edge b)) none_differs
               ∙ sym (ap (λ (o : Outcome space Why). settled (suc (m_of l coarsest)) o.answer o.store c.edge b) done_at)
 
-          pub changed_done : n ≡ 0 → result v t ≡ changed_behind l ch coarsest b c
-          changed_done y = ap (λ (u : Verdict). result u t) goes.1 ∙ sym (behind_is ∙ ap (λ (k : ℕ). settled (suc (m_of l coarsest)) (answer_by k) t c.edge b) y)
+          pub changed_done : n ≡ 0 → result_of v t ≡ changed_behind l ch coarsest b c
+          changed_done y = ap (λ (u : Verdict). result_of u t) goes.1 ∙ sym (behind_is ∙ ap (λ (k : ℕ). settled (suc (m_of l coarsest)) (answer_by k) t c.edge b) y)
 
-          pub changed_bad : (n ≡ 0 → ⊥) → result (refused 7 (n - 1)) t ≡ changed_behind l ch coarsest b c
+          pub changed_bad : (n ≡ 0 → ⊥) → result_of (refused 7 (n - 1)) t ≡ changed_behind l ch coarsest b c
           changed_bad k =
               let z : n ≡ suc (n - 1) = omega arith in
               let a : (change (rules l ch (m_of l coarsest)) (changes l) b c).answer ≡ NotFinite (n - 1) =
               ap (λ (o : Outcome space Why). o.answer) (sym done_at) ∙ ap (λ (j : ℕ). answer_by {Why = Why} j) z in
               let s : t ≡ b = ap (λ (o : Outcome space Why). o.store) done_at ∙ kept_store l ch (m_of l coarsest) b c (n - 1) a in
-              ap (result (refused 7 (n - 1))) s ∙ sym (behind_is ∙ ap (λ (j : ℕ). settled (suc (m_of l coarsest)) (answer_by j) t c.edge b) z)
+              ap (result_of (refused 7 (n - 1))) s ∙ sym (behind_is ∙ ap (λ (j : ℕ). settled (suc (m_of l coarsest)) (answer_by j) t c.edge b) z)
 
 -- ---- as the code finds them
 
@@ -387,10 +387,10 @@ edit_verdict_lem i e z = rw (sym n) (go (ltb e (unknowns_of i.lattice.grid)) (ba
 -- ---- with the checks
 
 module _ (i : Input) (s : Store) (e : ℕ) (z : C64) {w : Verdict} (checked : w ≡ check_stretches i.lattice i.xn i.xh i.yn i.yh i.zn i.zh) where
-  pub change_checked : is_sound w ≡ false → result w s ≡ change_of i s (change_to e z)
+  pub change_checked : is_sound w ≡ false → result_of w s ≡ change_of i s (change_to e z)
   unfolding change_of
   change_checked h =
-      ap (λ (u : Verdict). result u s) checked
+      ap (λ (u : Verdict). result_of u s) checked
       ∙ unless_refused (check_stretches i.lattice i.xn i.xh i.yn i.yh i.zn i.zh) s _ (ap is_sound (sym checked) ∙ h)
 
   module _ (h : is_sound w ≡ true) {k : Verdict} (edited : k ≡ edit_verdict i.lattice e z) where
@@ -401,9 +401,9 @@ module _ (i : Input) (s : Store) (e : ℕ) (z : C64) {w : Verdict} (checked : w 
     k_is : k ≡ bad_verdict ((changes (full_of i)).bad (change_to e z)) e
     k_is = edited ∙ edit_verdict_lem i e z
 
-    pub change_edit : is_sound k ≡ false → result k s ≡ change_of i s (change_to e z)
+    pub change_edit : is_sound k ≡ false → result_of k s ≡ change_of i s (change_to e z)
     change_edit y =
-        ap (λ (u : Verdict). result u s) k_is
+        ap (λ (u : Verdict). result_of u s) k_is
         ∙ unless_refused (bad_verdict ((changes (full_of i)).bad (change_to e z)) e) s (changed_behind (full_of i) i.choice i.coarsest s (change_to e z)) (ap is_sound (sym k_is) ∙ y)
         ∙ sym goes_on
 

@@ -18,7 +18,7 @@ use Rattle.store.specs.Places.{Place, space, get}
 use Rattle.store.specs.Spots.{permittivity, spot, cells, laid_from}
 use Rattle.store.specs.Rows.{rules}
 use Rattle.store.specs.Changes.{Change, Why, changes}
-use Rattle.store.specs.Setup.{Input, full_of, transfers_of, Result, result, unless, all_to, structure_of, setup_of}
+use Rattle.store.specs.Setup.{Input, full_of, transfers_of, Result, result_of, unless, all_to, structure_of, setup_of}
 use Rattle.store.specs.Calls.{level_matches, bad_verdict, settled, change_of, Told, told, noted, book_of, store_after, store_answers, book_after, book_answers}
 use Rattle.store.proofs.CallLaws.{Fine, planned_told, planned_is, here, here_consistent, booked, step}
 use Rattle.store.proofs.PlaceLaws.{puts_out}
@@ -78,7 +78,7 @@ module _ (i : Input) (b : Store) where
   setup_told : (eps : List Float) {n : ℕ} → (setup_of i eps b).verdict ≡ accepted n → Fine i b eps
   setup_told eps ok = planned_told i b eps (ap (λ (r : Result). is_sound r.verdict) (sym (setup_planned i eps b)) ∙ ap is_sound ok)
 
-  setup_is : (eps : List Float) (f : Fine i b eps) → setup_of i eps b ≡ result (accepted levels) (here i b eps f)
+  setup_is : (eps : List Float) (f : Fine i b eps) → setup_of i eps b ≡ result_of (accepted levels) (here i b eps f)
   setup_is eps f = setup_planned i eps b ∙ planned_is i b eps f
 
   book_is : (eps : List Float) (f : Fine i b eps) (c : Change) → book_of i b eps c ≡ booked i b eps f c
@@ -89,17 +89,17 @@ module _ (i : Input) (b : Store) where
 
   -- one change
   change_noted : (eps : List Float) (f : Fine i b eps) (c : Change)
-      → ((change_of i (here i b eps f) c).verdict ≡ (book_of i b eps c).verdict) × (setup_of i (book_of i b eps c).list b ≡ result (accepted levels) (change_of i (here i b eps f) c).store)
+      → ((change_of i (here i b eps f) c).verdict ≡ (book_of i b eps c).verdict) × (setup_of i (book_of i b eps c).list b ≡ result_of (accepted levels) (change_of i (here i b eps f) c).store)
   change_noted eps f c =
       let s = step i b eps f c in
       let e = book_is eps f c in
       (s.0 ∙ ap (λ (t : Told). t.verdict) (sym e), ap (λ (t : Told). setup_of i t.list b) e ∙ setup_planned i (booked i b eps f c).list b ∙ s.1)
 
   all_changes : (eps : List Float) → (setup_of i eps b).verdict ≡ accepted levels → (cs : List Change)
-      → (setup_of i (book_after i b eps cs) b ≡ result (accepted levels) (store_after i (setup_of i eps b).store cs))
+      → (setup_of i (book_after i b eps cs) b ≡ result_of (accepted levels) (store_after i (setup_of i eps b).store cs))
       × (store_answers i (setup_of i eps b).store cs ≡ book_answers i b eps cs)
   unfolding book_after store_after store_answers book_answers
-  all_changes eps ok [] = let e = setup_is eps (setup_told eps ok) in (e ∙ ap (λ (r : Result). result (accepted levels) r.store) (sym e), refl)
+  all_changes eps ok [] = let e = setup_is eps (setup_told eps ok) in (e ∙ ap (λ (r : Result). result_of (accepted levels) r.store) (sym e), refl)
   all_changes eps ok (c ∷ cs) =
       let f = setup_told eps ok in
       let e = ap (λ (r : Result). r.store) (setup_is eps f) in
@@ -112,12 +112,12 @@ module _ (i : Input) (b : Store) where
 
   -- DEMAND 3: n is the count of levels, which stays
   pub store_is_book : (eps : List Float) {n : ℕ} → (setup_of i eps b).verdict ≡ accepted n → (cs : List Change)
-      → (setup_of i (book_after i b eps cs) b ≡ result (accepted n) (store_after i (setup_of i eps b).store cs))
+      → (setup_of i (book_after i b eps cs) b ≡ result_of (accepted n) (store_after i (setup_of i eps b).store cs))
       × (store_answers i (setup_of i eps b).store cs ≡ book_answers i b eps cs)
   store_is_book eps {n} ok cs =
       let e : accepted n ≡ accepted levels = sym ok ∙ ap (λ (r : Result). r.verdict) (setup_is eps (setup_told eps ok)) in
       let t = all_changes eps (ok ∙ e) cs in
-      (t.0 ∙ ap (λ (v : Verdict). result v (store_after i (setup_of i eps b).store cs)) (sym e), t.1)
+      (t.0 ∙ ap (λ (v : Verdict). result_of v (store_after i (setup_of i eps b).store cs)) (sym e), t.1)
 
   -- ---- beside it
 

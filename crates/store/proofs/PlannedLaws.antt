@@ -13,7 +13,7 @@ use Rattle.store.specs.Store.{Store, sizes, zeroed}
 use Rattle.store.specs.Places.{space}
 use Rattle.store.specs.Rows.{full, rules}
 use Rattle.store.specs.Changes.{Why}
-use Rattle.store.specs.Setup.{Input, Result, result, unless, all_to, level_fine, structure_of, setup_of, full_of, transfers_of}
+use Rattle.store.specs.Setup.{Input, Result, result_of, unless, all_to, level_fine, structure_of, setup_of, full_of, transfers_of}
 use Rattle.store.specs.Load.{load}
 use Rattle.store.specs.Calls.{settled, planned_of}
 use Rattle.store.proofs.CallLaws.{limits_of, enough_of}
@@ -40,9 +40,9 @@ all_tested k ok (suc n) = then_tested k (all_to k ok n) (cond (ok n) (accepted 0
 
 -- past the test a refusal leaves z
 settled_by : (v : Verdict) → Tested 7 v → (k : ℕ) (done start z : Store) → let o = settle {X = space} {Why = Why} (refused_at v) done start in
-    unless v z (result (accepted k) done) ≡ settled k o.answer o.store 0 z
+    unless v z (result_of (accepted k) done) ≡ settled k o.answer o.store 0 z
 settled_by (accepted n) u k done start z = refl
-settled_by (refused n p) u k done start z = ap (λ (q : ℕ). result (refused q p) z) u
+settled_by (refused n p) u k done start z = ap (λ (q : ℕ). result_of (refused q p) z) u
 
 -- calls agree where they agree once the checks have passed
 unless_same : (v : Verdict) (s : Store) (x y : Result) → (is_sound v ≡ true → x ≡ y) → unless v s x ≡ unless v s y
@@ -61,7 +61,7 @@ setup_planned i eps s =
     let limits = limits_of i s eps x in
     let enough = enough_of i s y in
     let start = load L c k s eps in
-    ap (λ (t : Store). unless v (zeroed s) (result (accepted (suc k)) t)) (filled_is_set_up L c k s enough eps limits)
+    ap (λ (t : Store). unless v (zeroed s) (result_of (accepted (suc k)) t)) (filled_is_set_up L c k s enough eps limits)
     ∙ settled_by v (all_tested 7 (level_fine L c k (number_at eps)) (suc k)) (suc k) (run (rules L c k) (full L c k) start) start (zeroed s)
     ∙ ap (λ (o : Option ℕ). let q = settle {X = space} {Why = Why} o (run (rules L c k) (full L c k) start) start in settled (suc k) q.answer q.store 0 (zeroed s))
     (sym (first_bad_is L c k limits s enough eps))))

@@ -27,7 +27,7 @@ use Rattle.lattice.specs.declared.line.Line.{Line}
 use Rattle.operators.specs.LevelLists.{edges_on}
 use Rattle.store.specs.Store.{Store, Sizes, sizes, lent, zeroed}
 use Rattle.store.specs.Layout.{Enough, eps_off}
-use Rattle.store.specs.Setup.{Input, full_of, setup_of, Result, result, unless, filled, all_to, names_once, short_of, level_fine, ends_part, eps_part, averaged_part, forward_starts_of, forward_cols_of, forward_numbers, turned_starts_of, turned_cols_of, turned_numbers, operator_starts_of, operator_cols_of, operator_numbers, scale_part, only_numbers}
+use Rattle.store.specs.Setup.{Input, full_of, setup_of, Result, result_of, unless, filled, all_to, names_once, short_of, level_fine, ends_part, eps_part, averaged_part, forward_starts_of, forward_cols_of, forward_numbers, turned_starts_of, turned_cols_of, turned_numbers, operator_starts_of, operator_cols_of, operator_numbers, scale_part, only_numbers}
 use Rattle.store.specs.Phases.{HasLines}
 use Rattle.store.specs.FillSteps.{numbered}
 use Rattle.store.specs.PhaseSteps.{ThreeZeroed}
@@ -77,7 +77,7 @@ and_last (accepted a) (accepted b) n e = absurd (false≢true (sym e))
 and_last (accepted a) (refused b p) n e = refl
 and_last (refused a p) y n e = refl
 
-pub unless_refused : (v : Verdict) (s : Store) (r : Result) → is_sound v ≡ false → result v s ≡ unless v s r
+pub unless_refused : (v : Verdict) (s : Store) (r : Result) → is_sound v ≡ false → result_of v s ≡ unless v s r
 unless_refused (accepted n) s r e = absurd (false≢true (sym e))
 unless_refused (refused n p) s r e = refl
 
@@ -147,24 +147,24 @@ code_seven ok (suc n) = go (all_to 7 ok n) (ok n) (code_seven ok n)
 -- ---- behind the checks
 
 module _ (l : FullLattice) (ch : Choice) (coarsest : ℕ) (f : ℕ → C64) (b : Store) {d : Verdict} (depth : d ≡ depth_of l coarsest) {v : Verdict} (found : v ≡ structure_by l ch d (sizes b)) where
-  pub settled_refused : {t : Store} → is_sound v ≡ false → t ≡ zeroed b → result v t ≡ settled_of l ch coarsest f b
+  pub settled_refused : {t : Store} → is_sound v ≡ false → t ≡ zeroed b → result_of v t ≡ settled_of l ch coarsest f b
   unfolding settled_of structure_by
   settled_refused {t} e z =
       let x = and_then (depth_of l coarsest) (all_to 8 (names_once l) (m_of l coarsest)) in
       let y = short_of l ch (m_of l coarsest) (sizes b) in
       let w : v ≡ and_then x (and_then y (accepted (suc (m_of l coarsest)))) = found ∙ ap (λ (u : Verdict). and_then (and_then u (all_to 8 (names_once l) (count_of u - 1))) (and_then (short_of l ch (count_of u - 1) (sizes b)) (accepted (suc (count_of u - 1))))) depth in
       let q : v ≡ and_then x y = w ∙ sym (and_last x y (suc (m_of l coarsest)) (ap is_sound (sym w) ∙ e)) in
-      (λ i. result (q i) (z i)) ∙ unless_refused (and_then x y) (zeroed b) _ (ap is_sound (sym q) ∙ e)
+      (λ i. result_of (q i) (z i)) ∙ unless_refused (and_then x y) (zeroed b) _ (ap is_sound (sym q) ∙ e)
 
   module _ (e : is_sound v ≡ true) {bad : ℕ} {t : Store} (done : filling bad t ≡ fill_of l ch (m_of l coarsest) f b) where
-    goes : (settled_of l ch coarsest f b ≡ unless (all_to 7 (level_fine l ch (m_of l coarsest) f) (suc (m_of l coarsest))) (zeroed b) (result (accepted (suc (m_of l coarsest))) (filled l ch (m_of l coarsest) f b)))
+    goes : (settled_of l ch coarsest f b ≡ unless (all_to 7 (level_fine l ch (m_of l coarsest) f) (suc (m_of l coarsest))) (zeroed b) (result_of (accepted (suc (m_of l coarsest))) (filled l ch (m_of l coarsest) f b)))
         × (v ≡ accepted (suc (m_of l coarsest)))
     unfolding settled_of structure_by
     goes =
         let x = and_then (depth_of l coarsest) (all_to 8 (names_once l) (m_of l coarsest)) in
         let y = short_of l ch (m_of l coarsest) (sizes b) in
         let w : v ≡ and_then x (and_then y (accepted (suc (m_of l coarsest)))) = found ∙ ap (λ (u : Verdict). and_then (and_then u (all_to 8 (names_once l) (count_of u - 1))) (and_then (short_of l ch (count_of u - 1) (sizes b)) (accepted (suc (count_of u - 1))))) depth in
-        let k = and_sound x y (suc (m_of l coarsest)) (zeroed b) (unless (all_to 7 (level_fine l ch (m_of l coarsest) f) (suc (m_of l coarsest))) (zeroed b) (result (accepted (suc (m_of l coarsest))) (filled l ch (m_of l coarsest) f b))) (ap is_sound (sym w) ∙ e) in
+        let k = and_sound x y (suc (m_of l coarsest)) (zeroed b) (unless (all_to 7 (level_fine l ch (m_of l coarsest) f) (suc (m_of l coarsest))) (zeroed b) (result_of (accepted (suc (m_of l coarsest))) (filled l ch (m_of l coarsest) f b))) (ap is_sound (sym w) ∙ e) in
         (k.0, w ∙ k.1)
 
     abbrev seven : Verdict
@@ -181,17 +181,17 @@ module _ (l : FullLattice) (ch : Choice) (coarsest : ℕ) (f : ℕ → C64) (b :
     seven_is : seven ≡ cond (eqb bad 0) (accepted 0) (refused 7 (bad - 1))
     seven_is = code_seven (level_fine l ch (m_of l coarsest) f) (suc (m_of l coarsest)) ∙ ap (λ (k : ℕ). cond (eqb k 0) (accepted 0) (refused 7 (k - 1))) (sym bad_is)
 
-    pub settled_done : bad ≡ 0 → result v t ≡ settled_of l ch coarsest f b
+    pub settled_done : bad ≡ 0 → result_of v t ≡ settled_of l ch coarsest f b
     settled_done z =
         let q : seven ≡ accepted 0 = seven_is ∙ ap (λ (x : Bool). cond x (accepted 0) (refused 7 (bad - 1))) (eq-eqb bad 0 z) in
-        (λ i. result (goes.1 i) (store_is i))
-        ∙ sym (goes.0 ∙ ap (λ (u : Verdict). unless u (zeroed b) (result (accepted (suc (m_of l coarsest))) (filled l ch (m_of l coarsest) f b))) q)
+        (λ i. result_of (goes.1 i) (store_is i))
+        ∙ sym (goes.0 ∙ ap (λ (u : Verdict). unless u (zeroed b) (result_of (accepted (suc (m_of l coarsest))) (filled l ch (m_of l coarsest) f b))) q)
 
-    pub settled_bad : (bad ≡ 0 → ⊥) → {t' : Store} → t' ≡ zeroed t → result (refused 7 (bad - 1)) t' ≡ settled_of l ch coarsest f b
+    pub settled_bad : (bad ≡ 0 → ⊥) → {t' : Store} → t' ≡ zeroed t → result_of (refused 7 (bad - 1)) t' ≡ settled_of l ch coarsest f b
     settled_bad n z =
         let q : seven ≡ refused 7 (bad - 1) = seven_is ∙ ap (λ (x : Bool). cond x (accepted 0) (refused 7 (bad - 1))) (ne_eqb bad 0 n) in
-        ap (result (refused 7 (bad - 1))) (z ∙ ap zeroed store_is ∙ filled_zeroed l ch (m_of l coarsest) f b)
-        ∙ sym (goes.0 ∙ ap (λ (u : Verdict). unless u (zeroed b) (result (accepted (suc (m_of l coarsest))) (filled l ch (m_of l coarsest) f b))) q)
+        ap (result_of (refused 7 (bad - 1))) (z ∙ ap zeroed store_is ∙ filled_zeroed l ch (m_of l coarsest) f b)
+        ∙ sym (goes.0 ∙ ap (λ (u : Verdict). unless u (zeroed b) (result_of (accepted (suc (m_of l coarsest))) (filled l ch (m_of l coarsest) f b))) q)
 
 -- ---- 5, 8 and 6 as the code finds them
 
@@ -264,9 +264,9 @@ fill_at l ch coarsest f b depth count done = done ∙ ap (λ (k : ℕ). fill_of 
 
 module _ (i : Input) (eps : List Float) (b : Store) {w : Verdict}
     (checked : w ≡ check_of i.lattice i.xn i.xh i.yn i.yh i.zn i.zh eps) where
-  pub setup_refused : is_sound w ≡ false → result w b ≡ setup_of i eps b
+  pub setup_refused : is_sound w ≡ false → result_of w b ≡ setup_of i eps b
   unfolding setup_of
-  setup_refused e = ap (λ (u : Verdict). result u b) checked ∙ unless_refused (check_of i.lattice i.xn i.xh i.yn i.yh i.zn i.zh eps) b _ (ap is_sound (sym checked) ∙ e)
+  setup_refused e = ap (λ (u : Verdict). result_of u b) checked ∙ unless_refused (check_of i.lattice i.xn i.xh i.yn i.yh i.zn i.zh eps) b _ (ap is_sound (sym checked) ∙ e)
 
   module _ (e : is_sound w ≡ true) where
     pub setup_sound : Limits i.lattice.grid × Lengths i.lattice.grid i.xn i.yn i.zn × Lengths i.lattice.grid i.xh i.yh i.zh

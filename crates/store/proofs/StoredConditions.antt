@@ -40,7 +40,7 @@ use Rattle.operators.proofs.RowMembers.{Via}
 use Rattle.operators.proofs.StencilLaws.{stencil_local}
 use Rattle.store.specs.Store.{Store, sizes, zeroed}
 use Rattle.store.specs.Layout.{operator_at, next_edges, forward_count, turned_count, stored_count, scale_count, first_stored, eps_off, averaged_off, forward_off, turned_off, operator_off, scale_off, Enough}
-use Rattle.store.specs.Setup.{Input, full_of, transfers_of, Result, result, unless, eps_part, averaged_part, forward_numbers, turned_numbers, operator_starts_of, operator_cols_of, operator_numbers, scale_part, filled, all_to, level_fine, structure_of, setup_of}
+use Rattle.store.specs.Setup.{Input, full_of, transfers_of, Result, result_of, unless, eps_part, averaged_part, forward_numbers, turned_numbers, operator_starts_of, operator_cols_of, operator_numbers, scale_part, filled, all_to, level_fine, structure_of, setup_of}
 use Rattle.store.specs.Phases.{forward_part, turned_part, operator_part, TransfersIn}
 use Rattle.store.specs.declared.Choice.{Choice}
 use Rattle.store.specs.declared.Choice.TheVariants.{Galerkin, Rediscretized}
@@ -75,7 +75,7 @@ accepted_filled i eps s n ok =
     let x = check_of i.lattice i.xn i.xh i.yn i.yh i.zn i.zh eps in
     let y = structure_of i (sizes s) in
     let z = all_to 7 (level_fine l i.choice m (number_at eps)) (suc m) in
-    let done = result (accepted (suc m)) (filled l i.choice m (number_at eps) s) in
+    let done = result_of (accepted (suc m)) (filled l i.choice m (number_at eps) s) in
     let c = unless z (zeroed s) done in
     let b = unless y (zeroed s) c in
     let p = unless_told x s b (ap is_sound ok) in

@@ -13,7 +13,7 @@ use Rattle.store.specs.Book.{Answer, Done, Bad, NotFinite, Outcome, set_up, chan
 use Rattle.store.specs.Store.{Store, sizes, zeroed}
 use Rattle.store.specs.Layout.{next_edges, forward_off, turned_off, operator_off, starts_off, stored_starts, ends_off}
 use Rattle.store.specs.declared.Choice.{Choice}
-use Rattle.store.specs.Setup.{Input, full_of, transfers_of, Result, result, unless, ends_part, forward_starts_of, forward_cols_of, turned_starts_of, turned_cols_of, operator_starts_of, operator_cols_of, all_to, structure_of, setup_of}
+use Rattle.store.specs.Setup.{Input, full_of, transfers_of, Result, result_of, unless, ends_part, forward_starts_of, forward_cols_of, turned_starts_of, turned_cols_of, operator_starts_of, operator_cols_of, all_to, structure_of, setup_of}
 use Rattle.store.specs.Load.{load}
 use Rattle.store.specs.Rows.{rules}
 use Rattle.store.specs.Changes.{Change, Why, NoEdge, BadValue, changes}
@@ -54,9 +54,9 @@ bad_verdict (some why) e = why_verdict why e
 
 -- accepted with n; a refusal leaves z
 abbrev pub settled : ℕ → Answer Why → Store → ℕ → Store → Result
-settled n Done s e z = result (accepted n) s
-settled n (Bad why) s e z = result (why_verdict why e) z
-settled n (NotFinite L) s e z = result (refused 7 L) z
+settled n Done s e z = result_of (accepted n) s
+settled n (Bad why) s e z = result_of (why_verdict why e) z
+settled n (NotFinite L) s e z = result_of (refused 7 L) z
 
 -- a setup as the plan of all rows: the theorem `setup_planned` (proofs/PlannedLaws) says that it is `setup_of`
 unfoldable pub planned_of : Input → List Float → Store → Result

@@ -8,7 +8,7 @@ use Rattle.lattice.specs.Check.{Verdict, accepted, refused}
 use Rattle.lattice.specs.Cases.{Case, over, ends}
 use Rattle.operators.specs.Cases as Below
 use Rattle.store.specs.Store.{Store, lent}
-use Rattle.store.specs.Setup.{Input, Result, result, setup_of}
+use Rattle.store.specs.Setup.{Input, Result, result_of, setup_of}
 use Rattle.store.specs.declared.Choice.{Choice}
 use Rattle.store.specs.declared.Choice.TheVariants.{Galerkin, Rediscretized}
 
@@ -186,10 +186,10 @@ rediscretized_left =
 -- ---- the table
 
 unfoldable pub galerkin_rows : List Case
-galerkin_rows = setting (setup_of (four_cells Galerkin) (ones 12) galerkin_lent) (result (accepted 2) galerkin_left)
+galerkin_rows = setting (setup_of (four_cells Galerkin) (ones 12) galerkin_lent) (result_of (accepted 2) galerkin_left)
 
 unfoldable pub rediscretized_rows : List Case
-rediscretized_rows = setting (setup_of (four_cells Rediscretized) (ones 12) rediscretized_lent) (result (accepted 2) rediscretized_left)
+rediscretized_rows = setting (setup_of (four_cells Rediscretized) (ones 12) rediscretized_lent) (result_of (accepted 2) rediscretized_left)
 
 unfoldable pub table : List Case
 table = Below.table ++ (galerkin_rows ++ rediscretized_rows)

@@ -48,13 +48,13 @@ pub record Result : Type 0 where
   pub verdict : Verdict
   pub store : Store
 
-abbrev pub result : Verdict → Store → Result
-result v s = record { verdict = v; store = s }
+abbrev pub result_of : Verdict → Store → Result
+result_of v s = record { verdict = v; store = s }
 
 -- the call goes on unless it is refused, which leaves s
 abbrev pub unless : Verdict → Store → Result → Result
 unless (accepted n) s r = r
-unless (refused number place) s r = result (refused number place) s
+unless (refused number place) s r = result_of (refused number place) s
 
 -- ---- each level's part of each list: structure
 
@@ -191,4 +191,4 @@ setup_of i eps s =
     unless (check_of i.lattice i.xn i.xh i.yn i.yh i.zn i.zh eps) s
     (unless (structure_of i (sizes s)) (zeroed s)
     (unless (all_to 7 (level_fine (full_of i) i.choice (transfers_of i) (number_at eps)) (suc (transfers_of i))) (zeroed s)
-    (result (accepted (suc (transfers_of i))) (filled (full_of i) i.choice (transfers_of i) (number_at eps) s))))
+    (result_of (accepted (suc (transfers_of i))) (filled (full_of i) i.choice (transfers_of i) (number_at eps) s))))

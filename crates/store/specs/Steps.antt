@@ -6,7 +6,7 @@ use Rattle.lattice.specs.Check.{Verdict, accepted, refused, and_then, verdict_of
 use Rattle.lattice.specs.Lattice.{FullLattice}
 use Rattle.lattice.specs.Levels.{depth_of, count_of, levels_refused}
 use Rattle.store.specs.Store.{Store, Sizes, sizes, zeroed}
-use Rattle.store.specs.Setup.{Result, result, unless, filled, all_to, names_once, short_of, level_fine}
+use Rattle.store.specs.Setup.{Result, result_of, unless, filled, all_to, names_once, short_of, level_fine}
 use Rattle.lattice.specs.declared.levels.Depth.{Depth}
 use Rattle.lattice.specs.declared.line.Line.{Line}
 use Rattle.store.specs.Phases.{HasLines, lower_of}
@@ -70,4 +70,4 @@ unfoldable pub settled_of : FullLattice → Choice → ℕ → (ℕ → C64) →
 settled_of l ch coarsest f s =
     unless (and_then (and_then (depth_of l coarsest) (all_to 8 (names_once l) (m_of l coarsest))) (short_of l ch (m_of l coarsest) (sizes s))) (zeroed s)
     (unless (all_to 7 (level_fine l ch (m_of l coarsest) f) (suc (m_of l coarsest))) (zeroed s)
-    (result (accepted (suc (m_of l coarsest))) (filled l ch (m_of l coarsest) f s)))
+    (result_of (accepted (suc (m_of l coarsest))) (filled l ch (m_of l coarsest) f s)))

@@ -8,7 +8,7 @@ ghost use Rattle.lattice.specs.Lattice.{full_lattice};
 ghost use Rattle.lattice.specs.Levels.{depth_verdict, count_of};
 ghost use Rattle.operators.specs.LevelLists.{edges_on};
 ghost use Rattle.store.specs.Store.{lent, zeroed};
-ghost use Rattle.store.specs.Setup.{result, setup_of, all_to, names_once, short_of, input_of};
+ghost use Rattle.store.specs.Setup.{result_of, setup_of, all_to, names_once, short_of, input_of};
 ghost use Rattle.store.specs.Phases.{HasLines};
 ghost use Rattle.store.specs.FillSteps.{sizes_of};
 ghost use Rattle.store.specs.Steps.{answer_of, LinesFound, structure_by, settled_of};
@@ -36,7 +36,7 @@ pub enum Answer {
 
 // Whether nothing is refused.
 pub fn goes_on(a: Answer) -> bool
-    ensures* { λ r. ⌜ r ≡ is_sound (answer_of a) ⌝ }
+    ensures { result ≡ is_sound (answer_of a) }
 {
     match a {
         Answer::Levels(_) => true,
@@ -62,8 +62,8 @@ fn levels_structure(
     requires limits { Limits l.grid }
     requires m_bound { m ≤ 11 }
     requires has_lines { HasLines (full_lattice l st.now) m lines }
-    ensures* { λ r. ⌜ answer_of r ≡ and_then (all_to 8 (names_once (full_lattice l st.now)) m)
-        (and_then (short_of (full_lattice l st.now) choice m (sizes_of h)) (accepted (suc m))) ⌝ }
+    ensures { answer_of result ≡ and_then (all_to 8 (names_once (full_lattice l st.now)) m)
+        (and_then (short_of (full_lattice l st.now) choice m (sizes_of h)) (accepted (suc m))) }
 {
     let s = needs::short(needs::count(l, st, lines, m, choice), h);
     if s == 6 {
@@ -83,7 +83,7 @@ pub fn structure(
 ) -> Answer
     requires limits { Limits l.grid }
     requires lines_found { LinesFound (full_lattice l st.now) depth lines }
-    ensures* { λ r. ⌜ answer_of r ≡ structure_by (full_lattice l st.now) choice (depth_verdict depth) (sizes_of h) ⌝ }
+    ensures { answer_of result ≡ structure_by (full_lattice l st.now) choice (depth_verdict depth) (sizes_of h) }
 {
     match depth {
         Depth::Levels(n) => levels_structure(choice, l, st, lines, n - 1, h),
@@ -93,7 +93,7 @@ pub fn structure(
 
 // The transfers of so many levels.
 pub fn transfers_of(depth: Depth) -> usize
-    ensures* { λ r. ⌜ r ≡ count_of (depth_verdict depth) - 1 ⌝ }
+    ensures { result ≡ count_of (depth_verdict depth) - 1 }
 {
     match depth {
         Depth::Levels(n) => {
@@ -123,11 +123,11 @@ fn zero_all(
     ovalues: &mut [f64],
     scaling: &mut [f64],
 )
-    ensures* { λ _. ⌜ lent ends.new eps.new starts.new columns.new values.new
+    ensures { lent ends.new eps.new starts.new columns.new values.new
         tstarts.new tcolumns.new tvalues.new ostarts.new ocolumns.new ovalues.new scaling.new
         ≡ zeroed (lent ends.old eps.old starts.old columns.old values.old
         tstarts.old tcolumns.old tvalues.old ostarts.old ocolumns.old ovalues.old
-        scaling.old) ⌝ }
+        scaling.old) }
 {
     lists::zeros(ends);
     zeros::zero_doubles(eps);
@@ -159,11 +159,11 @@ fn settle(
 ) -> Answer
     requires limits { Limits l.grid }
     requires st_in_bounds { 2 * edges_on (full_lattice l st.now) 0 ≤ length given.now }
-    ensures* { λ r. ⌜ result (answer_of r) (lent ends.new eps.new starts.new columns.new values.new
+    ensures { result_of (answer_of result) (lent ends.new eps.new starts.new columns.new values.new
         tstarts.new tcolumns.new tvalues.new ostarts.new ocolumns.new ovalues.new scaling.new)
         ≡ settled_of (full_lattice l st.now) choice coarsest (number_at given.now) (lent ends.old eps.old starts.old
         columns.old values.old tstarts.old tcolumns.old tvalues.old ostarts.old
-        ocolumns.old ovalues.old scaling.old) ⌝ }
+        ocolumns.old ovalues.old scaling.old) }
 {
     let found = levels::join_lines(l, st, coarsest);
     let depth = found.depth;
@@ -233,12 +233,12 @@ pub fn setup(
     ovalues: &mut [f64],
     scaling: &mut [f64],
 ) -> Answer
-    ensures* { λ r. ⌜ result (answer_of r) (lent ends.new eps.new starts.new columns.new values.new
+    ensures { result_of (answer_of result) (lent ends.new eps.new starts.new columns.new values.new
         tstarts.new tcolumns.new tvalues.new ostarts.new ocolumns.new ovalues.new scaling.new)
         ≡ setup_of (input_of v xn.now xh.now yn.now yh.now zn.now zh.now choice coarsest)
         given.now (lent ends.old eps.old starts.old
         columns.old values.old tstarts.old tcolumns.old tvalues.old ostarts.old
-        ocolumns.old ovalues.old scaling.old) ⌝ }
+        ocolumns.old ovalues.old scaling.old) }
 {
     let c = check::check(v, xn, xh, yn, yh, zn, zh, given);
     if !check::is_sound(c) {

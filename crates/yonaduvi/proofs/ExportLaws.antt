@@ -13,7 +13,7 @@ use Rattle.lattice.specs.declared.check.Checked.{Checked}
 use Rattle.lattice.specs.declared.check.Checked.TheVariants.{Sound, Cells, Scalar, Length, Entry}
 use Rattle.lattice.specs.declared.lattice.Lattice.{Lattice}
 use Rattle.store.specs.Store.{Store}
-use Rattle.store.specs.Setup.{Input, Result, result, input_of, setup_of, full_of, transfers_of}
+use Rattle.store.specs.Setup.{Input, Result, result_of, input_of, setup_of, full_of, transfers_of}
 use Rattle.store.specs.FillSteps.{needs_of}
 use Rattle.store.specs.Needed.{NeededOf, no_needs, no_cells, cells_of, needed_verdict}
 use Rattle.store.specs.Steps.{answer_of}
@@ -69,7 +69,7 @@ left_of (accepted k) words xs n a b e = ap (λ m. laid xs 0 (words m)) e
 left_of (refused number place) words xs n a b e = refl
 
 -- a call that answers w and leaves s
-call_left : {r : Result} {w : Verdict} {s : Store} → result w s ≡ r → {out out' : List ℕ} → out' ≡ answered w out → CallLeft r out out' s
+call_left : {r : Result} {w : Verdict} {s : Store} → result_of w s ≡ r → {out out' : List ℕ} → out' ≡ answered w out → CallLeft r out out' s
 call_left e {out} o = record { answer_left = o ∙ ap (λ (q : Result). answered q.verdict out) e; store_left = ap (λ (q : Result). q.store) e }
 
 module _ (cells : List ℕ) (scalars xn xh yn yh zn zh : List Float) (choice : ℕ) {v : Lattice} {ch : Choice} (same : v ≡ lattice_from cells scalars)
@@ -79,11 +79,11 @@ module _ (cells : List ℕ) (scalars xn xh yn yh zn zh : List Float) (choice : �
 
   -- ---- the setup and the change
 
-  pub setup_left : (given : List Float) (s : Store) {s' : Store} (a : Answer) → result (answer_of a) s' ≡ setup_of (input_of v xn xh yn yh zn zh ch coarsest) given s
+  pub setup_left : (given : List Float) (s : Store) {s' : Store} (a : Answer) → result_of (answer_of a) s' ≡ setup_of (input_of v xn xh yn yh zn zh ch coarsest) given s
       → {out out' : List ℕ} → out' ≡ answered (answer_of a) out → CallLeft (setup_of own given s) out out' s'
   setup_left given s a e o = call_left {w = answer_of a} (rw (← same, ← chosen) e) o
 
-  pub change_left : (s : Store) (c : Change) {s' : Store} (a : Changed) → result (changed_of a) s' ≡ change_of (input_of v xn xh yn yh zn zh ch coarsest) s c
+  pub change_left : (s : Store) (c : Change) {s' : Store} (a : Changed) → result_of (changed_of a) s' ≡ change_of (input_of v xn xh yn yh zn zh ch coarsest) s c
       → {out out' : List ℕ} → out' ≡ answered (changed_of a) out → CallLeft (change_of own s c) out out' s'
   change_left s c a e o = call_left {w = changed_of a} (rw (← same, ← chosen) e) o
 

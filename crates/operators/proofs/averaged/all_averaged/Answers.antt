@@ -2,7 +2,7 @@ use Prim.Native.Nat.{◌-◌}
 use native.Mathlib.Omega.{arith}
 use Rattle.lattice.proofs.GridLaws.{unknowns_most}
 use Rattle.weights.proofs.EpsLaws.{chaining_start, chaining_end}
-use Rattle.operators.proofs.AverageLaws.{averaging_turn}
+use Rattle.operators.proofs.AverageLaws.{averaging_turn, ready_at}
 use Rattle.operators.proofs.averaged.all_averaged.Goals as goal
 
 pub unknowns-n-requires : goal.unknowns-n-requires
@@ -16,6 +16,11 @@ at-requires c = c.requires.limits.1
 
 pub averaged_eps_at-v-requires-clause-limits : goal.averaged_eps_at-v-requires-clause-limits
 averaged_eps_at-v-requires-clause-limits c = c.requires.limits.0
+
+pub averaged_eps_at-v-requires-clause-average_ready :
+    goal.averaged_eps_at-v-requires-clause-average_ready
+averaged_eps_at-v-requires-clause-average_ready c =
+    ready_at c.requires.limits.1 c.requires.averages_ready c.loop-r-test.true c.unknowns-n.ensures c.at.ensures
 
 pub overflow_add-to : goal.overflow_add-to
 overflow_add-to c =

@@ -16,21 +16,11 @@ pub axis_hats-requires-2-clause-nodes_len : goal.axis_hats-requires-2-clause-nod
 axis_hats-requires-2-clause-nodes_len c = axis_long c.axis_hats.ensures c.requires.nodes_len
 
 pub axis_hats-requires-3-clause-line_pair : goal.axis_hats-requires-3-clause-line_pair
-axis_hats-requires-3-clause-line_pair c = let a' = a.before.before.before.before.before.before.before.before.before.before in
-    let s = a'.before.before.before.before.before.before.before.before.before.before.before in
-    s.requires.0.z_pair
+axis_hats-requires-3-clause-line_pair c = c.requires.paired_lines.z_pair
 
 pub axis_hats-requires-3-clause-nodes_len : goal.axis_hats-requires-3-clause-nodes_len
-axis_hats-requires-3-clause-nodes_len c = let a' = a.before.before.before.before.before.before.before.before.before.before in
-    let s = a'.before.before.before.before.before.before.before.before.before.before.before in
-    axis_long c.axis_hats-2.ensures (axis_long a'.axis-hats.ensures s.requires.1)
+axis_hats-requires-3-clause-nodes_len c = axis_long c.axis_hats-2.ensures (axis_long c.axis_hats.ensures c.requires.nodes_len)
 
 pub returns : goal.returns
 returns c =
-    let a' = a.before.before.before.before.before.before.before.before.before.before in
-    let a'' = a'.before.before.before.before.before.before.before.before.before.before in
-    let i = a''.before.before.before.before in
-    let i' = i.before in
-    let i'' = i'.before in
-    let s = i''.before.before.before.before.before in
-    hats_three s.requires.0 s.requires.1 i''.is-wall.ensures i'.is-wall2.ensures i.is-wall3.ensures a''.axis-hats.ensures a'.axis-hats2.ensures c.axis_hats-3.ensures
+    hats_three c.requires.paired_lines c.requires.nodes_len c.is_wall-wx.ensures c.is_wall-wy.ensures c.is_wall-wz.ensures c.axis_hats.ensures c.axis_hats-2.ensures c.axis_hats-3.ensures

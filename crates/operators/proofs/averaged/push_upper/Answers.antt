@@ -16,9 +16,7 @@ hat_weight-requires c =
 
 pub loop-q-preserved : goal.loop-q-preserved
 loop-q-preserved c =
-    let l' = l.before in
-    let s = l'.before.before.before in
-    climbing_turn s.requires.1.0.0 l'.loop.invariant c.loop-q-test.true c.hat_weight.ensures c.push_hat-k.ensures
+    climbing_turn c.requires.last_le_cells.0 c.loop-q.invariant c.loop-q-test.true c.hat_weight.ensures c.push_hat-k.ensures
 
 pub returns : goal.returns
 returns c = climbing_end c.loop-q.invariant c.loop-q-test.false

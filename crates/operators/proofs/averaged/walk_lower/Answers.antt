@@ -9,9 +9,8 @@ loop-f-init c = walking_start c.requires.le_first.1
 pub wrapped_place-place-requires : goal.wrapped_place-place-requires
 wrapped_place-place-requires c = c.requires.held
 
--- OLD nonzero-rem-t14
--- rem-t14 c =
---     c.requires.held.some
+pub nonzero_rem-h : goal.nonzero_rem-h
+nonzero_rem-h c = c.requires.held.some
 
 pub hat_weight-requires : goal.hat_weight-requires
 hat_weight-requires c =

@@ -1,7 +1,12 @@
 -- `operators::averaged::weigh_line` meets its contract.
 -- Assumes nothing.
-use Rattle.operators.proofs.AverageLaws.{count_float, line_is}
+use Rattle.operators.proofs.AverageLaws.{line_inside, count_float, line_is}
 use Rattle.operators.proofs.averaged.weigh_line.Goals as goal
+
+pub sum_of_inverses-inverse-requires-clause-line_inside :
+    goal.sum_of_inverses-inverse-requires-clause-line_inside
+sum_of_inverses-inverse-requires-clause-line_inside c =
+    line_inside (record { is = c.through.ensures }) c.requires.component_bound.0 c.requires.node_bound c.requires.component_bound.2
 
 pub int_to_float-count : goal.int_to_float-count
 int_to_float-count c = count_float c.args.p.component c.args.first c.args.last c.requires.limits c.requires.component_bound.2

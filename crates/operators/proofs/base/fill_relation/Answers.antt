@@ -7,7 +7,7 @@ pub loop-i-init : goal.loop-i-init
 loop-i-init c = (omega arith, filling_start)
 
 pub loop-i-preserved : goal.loop-i-preserved
-loop-i-preserved c = (omega arith, filling_turn c.loop-i.invariant.1 c.loop-i-test.true c.base_isword.ensures)
+loop-i-preserved c = (omega arith, filling_turn c.loop-i.invariant.1 c.loop-i-test.true c.base_word.ensures)
 
 pub returns : goal.returns
 returns c = filling_end c.loop-i.invariant.1 c.loop-i-test.false

@@ -6,20 +6,20 @@ use Rattle.operators.proofs.ComputedLaws.{row_fits, computed_below, row_computed
 use Rattle.operators.proofs.galerkin.add_row.Goals as goal
 
 pub stencil_row-count-requires-clause-limits : goal.stencil_row-count-requires-clause-limits
-stencil_row-count-requires-clause-limits c = let h = c.requires.ready.computed c.in-Stored.is in
+stencil_row-count-requires-clause-limits c = let h = c.requires.ready.computed c.in-Computed.is in
     h.limits
 
 pub stencil_row-count-requires-clause-r_bound : goal.stencil_row-count-requires-clause-r_bound
-stencil_row-count-requires-clause-r_bound c = let h = c.requires.ready.computed c.in-Stored.is in
+stencil_row-count-requires-clause-r_bound c = let h = c.requires.ready.computed c.in-Computed.is in
     omega (arith, h.edges, c.requires.low)
 
 pub add_fine-requires-clause-count_in_bounds : goal.add_fine-requires-clause-count_in_bounds
-add_fine-requires-clause-count_in_bounds c = let h = c.requires.ready.computed c.in-Stored.is in
-    let w = row_fits _ _ _ c.stencil_row-count.ensures.0 c.stencil_row-count.ensures.1 refl refl in (omega (arith, w.columns_room), omega (arith, w.numbers_room), omega (arith, w.most))
+add_fine-requires-clause-count_in_bounds c = let h = c.requires.ready.computed c.in-Computed.is in
+    let w = row_fits _ _ _ c.stencil_row-count.ensures.wrote c.stencil_row-count.ensures.upper_bound refl refl in (omega (arith, w.columns_room), omega (arith, w.numbers_room), omega (arith, w.most))
 
 pub add_fine-requires-clause-has_rows : goal.add_fine-requires-clause-has_rows
-add_fine-requires-clause-has_rows c = let h = c.requires.ready.computed c.in-Stored.is in
-    let w = row_fits _ _ _ c.stencil_row-count.ensures.0 c.stencil_row-count.ensures.1 refl refl in rows_there c.requires.forward (rw h.edges (computed_below _ _ _ h.limits (omega (arith, h.edges, c.requires.low)) w))
+add_fine-requires-clause-has_rows c = let h = c.requires.ready.computed c.in-Computed.is in
+    let w = row_fits _ _ _ c.stencil_row-count.ensures.wrote c.stencil_row-count.ensures.upper_bound refl refl in rows_there c.requires.forward (rw h.edges (computed_below _ _ _ h.limits (omega (arith, h.edges, c.requires.low)) w))
 
 pub overflow_add-first : goal.overflow_add-first
 overflow_add-first c =
@@ -75,13 +75,19 @@ overflow_sub-last c =
     let b = bounds u _ c.requires.low in
     omega (arith, u.starts_low, u.rows_few, u.low, b.rise, b.few, b.place, c.requires.low)
 
+pub add_fine-requires-in-Stored-clause-count_in_bounds : goal.add_fine-requires-in-Stored-clause-count_in_bounds
+add_fine-requires-in-Stored-clause-count_in_bounds c =
+    let u = c.requires.ready.stored _ c.in-Stored.is in
+    let b = bounds u _ c.requires.low in
+    (omega (arith, b.rise, b.room), omega (arith, b.rise, b.numbers), omega (arith, b.rise, b.few, u.low))
+
 pub add_fine-requires-in-Stored-clause-has_rows : goal.add_fine-requires-in-Stored-clause-has_rows
 add_fine-requires-in-Stored-clause-has_rows c = let u = c.requires.ready.stored _ c.in-Stored.is in
     let b = bounds u _ c.requires.low in rows_there c.requires.forward (stored_below b)
 
 pub returns-in-Computed : goal.returns-in-Computed
 returns-in-Computed c =
-    let w = row_fits _ _ _ c.stencil_row-count.ensures.0 c.stencil_row-count.ensures.1 refl refl in
+    let w = row_fits _ _ _ c.stencil_row-count.ensures.wrote c.stencil_row-count.ensures.upper_bound refl refl in
     fine_gathered _ _ _ _ (row_computed _ _ _ _ _ c.in-Computed.is _ ∙ sym w.terms) c.add_fine.ensures
 
 pub returns-in-Stored : goal.returns-in-Stored

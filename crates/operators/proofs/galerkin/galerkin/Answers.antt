@@ -17,7 +17,7 @@ galerkin_row-requires-clause-sums_value c = let h = c.loop-c-test.true in c.loop
 
 pub loop-c-preserved : goal.loop-c-preserved
 loop-c-preserved c =
-    row_turn c.args.fine _ _ c.args.t c.args.o _ c.requires.rows_given.ready c.requires.rows_given.before c.requires.rows_given.transfer.turned c.loop-c.invariant c.loop-c-test.true c.galerkin_row.ensures.1 c.galerkin_row.ensures.0
+    row_turn c.args.fine _ _ c.args.t c.args.o _ c.requires.rows_given.ready c.requires.rows_given.before c.requires.rows_given.transfer.turned c.loop-c.invariant c.loop-c-test.true c.galerkin_row.ensures.ovalues_after c.galerkin_row.ensures.sums_after
 
 pub overflow_add-o : goal.overflow_add-o
 overflow_add-o c = omega (arith, c.requires.rows_ready.columned.starts_room)

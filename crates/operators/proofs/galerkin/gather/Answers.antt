@@ -33,9 +33,6 @@ add_row-requires c =
       low = stored_column (bounds c.requires.transfer.turned _ c.requires.low) c.loop-q.invariant.low c.loop-q-test.true;
     }
 
--- OLD overflow-add-q
--- add-q c = omega (arith, (bounds c.requires.transfer.turned _ c.requires.low).few, c.requires.transfer.turned.low, c.loop-q-test.true)
-
 pub loop-q-preserved : goal.loop-q-preserved
 loop-q-preserved c = adding_turn c.loop-q.invariant c.loop-q-test.true c.get-w.ensures c.add_row.ensures
 

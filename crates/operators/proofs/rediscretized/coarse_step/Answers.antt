@@ -13,4 +13,4 @@ pub int_to_float-result-2 : goal.int_to_float-result-2
 int_to_float-result-2 c = small_float _ c.requires.1
 
 pub returns : goal.returns
-returns c = step_is _ _ _ c.n.ensures c.step.ensures
+returns c = step_is _ _ _ c.n-cells.ensures c.step.ensures

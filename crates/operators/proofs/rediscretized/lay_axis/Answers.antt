@@ -11,9 +11,6 @@ unit-u-requires c = (c.requires.limits.0, c.requires.held.most)
 pub loop-m-init : goal.loop-m-init
 loop-m-init c = (omega arith, axis_start)
 
--- OLD overflow-add-m
--- add-m c = omega (arith, c.loop-m.invariant.0, c.loop-m-test.true, c.requires.held.most)
-
 pub loop-m-preserved : goal.loop-m-preserved
 loop-m-preserved c =
     (

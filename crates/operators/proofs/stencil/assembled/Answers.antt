@@ -1,10 +1,10 @@
 use Prim.Native.Nat.{◌-◌}
 use mathlib.Core.Path.{sym, ◌∙◌}
-use mathlib.Core.Logic.{⊎_elim}
 use Rattle.numbers.proofs.Laws.{and_true, and_false}
 use native.Mathlib.Omega.{arith}
 use Rattle.lattice.proofs.GridLaws.{unknowns_most}
 use Rattle.operators.proofs.StencilLaws.{assembling_start, assembling_turn, assembling_end}
+use Rattle.operators.proofs.stencil.assembled.Goals.{then-finite, else-finite}
 use Rattle.operators.proofs.stencil.assembled.Goals as goal
 
 pub loop-r-init : goal.loop-r-init
@@ -29,10 +29,10 @@ lay_row-row-requires-clause-k_bound c = let u = c.loop-r.invariant in
 pub loop-r-preserved : goal.loop-r-preserved
 loop-r-preserved c =
     let u = c.loop-r.invariant in
-    let e = (c.lay_row-row.ensures.wrote, c.lay_row-row.ensures.finite_value) in (
+    let e = c.lay_row-row.ensures in (
       u.0,
-      assembling_turn u.1 c.loop-r-test.true e.0 e.1.0 e.1.1
-          (⊎_elim (λ w. w.1 ∙ sym (and_true _ _ w.0.taken)) (λ w. w.1 ∙ sym (and_false _ _ w.0.left)) c.if-finite.branch) c.push-in-loop-r.ensures,
+      assembling_turn u.1 c.loop-r-test.true e.wrote e.finite_value.0 e.finite_value.1
+          (elim c.if-finite.branch [ then-finite w ↦ w.finite-is ∙ sym (and_true _ _ w.if-finite.true) | else-finite w ↦ w.finite-is ∙ sym (and_false _ _ w.if-finite.false) ]) c.push-in-loop-r.ensures,
     )
 
 pub returns-clause-laid_rows : goal.returns-clause-laid_rows

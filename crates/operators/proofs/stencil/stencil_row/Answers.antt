@@ -11,27 +11,21 @@ insert-requires c =
     shift_room c.unshifted_row-n.ensures.wrote c.unshifted_row-n.ensures.upper_bound p.0 p.1
 
 pub returns-then-not-fixed-clause-wrote : goal.returns-then-not-fixed-clause-wrote
-returns-then-not-fixed-clause-wrote c = let w = (c.unshifted_row-n.ensures.wrote, c.unshifted_row-n.ensures.upper_bound) in
-    let p = c.requires.in_bounds in
-    (stencil_shifted _ _ _ w.0 w.1 p.0 p.1 c.if-l.true c.fixed.ensures (ap not c.if-not-fixed.true) c.shift_number.ensures c.insert.ensures).0
+returns-then-not-fixed-clause-wrote c = let p = c.requires.in_bounds in
+    (stencil_shifted _ _ _ c.unshifted_row-n.ensures.wrote c.unshifted_row-n.ensures.upper_bound p.0 p.1 c.if-l.true c.fixed.ensures (ap not c.if-not-fixed.true) c.shift_number.ensures c.insert.ensures).0
 
 pub returns-then-not-fixed-clause-upper_bound : goal.returns-then-not-fixed-clause-upper_bound
-returns-then-not-fixed-clause-upper_bound c = let w = (c.unshifted_row-n.ensures.wrote, c.unshifted_row-n.ensures.upper_bound) in
-    let p = c.requires.in_bounds in
-    (stencil_shifted _ _ _ w.0 w.1 p.0 p.1 c.if-l.true c.fixed.ensures (ap not c.if-not-fixed.true) c.shift_number.ensures c.insert.ensures).1
+returns-then-not-fixed-clause-upper_bound c = let p = c.requires.in_bounds in
+    (stencil_shifted _ _ _ c.unshifted_row-n.ensures.wrote c.unshifted_row-n.ensures.upper_bound p.0 p.1 c.if-l.true c.fixed.ensures (ap not c.if-not-fixed.true) c.shift_number.ensures c.insert.ensures).1
 
 pub returns-else-not-fixed-clause-wrote : goal.returns-else-not-fixed-clause-wrote
-returns-else-not-fixed-clause-wrote c = let w = (c.unshifted_row-n.ensures.wrote, c.unshifted_row-n.ensures.upper_bound) in
-    (stencil_fixed _ _ _ w.0 w.1 c.fixed.ensures (ap not c.if-not-fixed.false)).0
+returns-else-not-fixed-clause-wrote c = (stencil_fixed _ _ _ c.unshifted_row-n.ensures.wrote c.unshifted_row-n.ensures.upper_bound c.fixed.ensures (ap not c.if-not-fixed.false)).0
 
 pub returns-else-not-fixed-clause-upper_bound : goal.returns-else-not-fixed-clause-upper_bound
-returns-else-not-fixed-clause-upper_bound c = let w = (c.unshifted_row-n.ensures.wrote, c.unshifted_row-n.ensures.upper_bound) in
-    (stencil_fixed _ _ _ w.0 w.1 c.fixed.ensures (ap not c.if-not-fixed.false)).1
+returns-else-not-fixed-clause-upper_bound c = (stencil_fixed _ _ _ c.unshifted_row-n.ensures.wrote c.unshifted_row-n.ensures.upper_bound c.fixed.ensures (ap not c.if-not-fixed.false)).1
 
 pub returns-else-l-clause-wrote : goal.returns-else-l-clause-wrote
-returns-else-l-clause-wrote c = let w = (c.unshifted_row-n.ensures.wrote, c.unshifted_row-n.ensures.upper_bound) in
-    (stencil_unshifted _ _ _ w.0 w.1 c.if-l.false).0
+returns-else-l-clause-wrote c = (stencil_unshifted _ _ _ c.unshifted_row-n.ensures.wrote c.unshifted_row-n.ensures.upper_bound c.if-l.false).0
 
 pub returns-else-l-clause-upper_bound : goal.returns-else-l-clause-upper_bound
-returns-else-l-clause-upper_bound c = let w = (c.unshifted_row-n.ensures.wrote, c.unshifted_row-n.ensures.upper_bound) in
-    (stencil_unshifted _ _ _ w.0 w.1 c.if-l.false).1
+returns-else-l-clause-upper_bound c = (stencil_unshifted _ _ _ c.unshifted_row-n.ensures.wrote c.unshifted_row-n.ensures.upper_bound c.if-l.false).1

@@ -1,9 +1,9 @@
 use Prim.Native.Nat.{◌-◌}
 use native.Mathlib.Omega.{arith}
 use mathlib.Core.Path.{sym, ◌∙◌}
-use mathlib.Core.Logic.{⊎_elim}
 use Rattle.numbers.proofs.Laws.{and_true, and_false}
 use Rattle.operators.proofs.VolumeLaws.{sharing_start, sharing_turn, sharing_end, placing_long}
+use Rattle.operators.proofs.volumes.inverse_shares.Goals.{then-finite, else-finite}
 use Rattle.operators.proofs.volumes.inverse_shares.Goals as goal
 
 pub loop-c-init : goal.loop-c-init
@@ -18,7 +18,7 @@ inverse_share-one-requires-clause-c_lt_m c = omega (arith, placing_long c.loop-c
 pub loop-c-preserved : goal.loop-c-preserved
 loop-c-preserved c =
     sharing_turn _ c.requires.stored c.requires.k_bound.2 c.loop-c.invariant c.loop-c-test.true c.inverse_share-one.ensures.scaling_after c.inverse_share-one.ensures.value
-    (⊎_elim (λ w. w.1 ∙ sym (and_true _ _ w.0.taken)) (λ w. w.1 ∙ sym (and_false _ _ w.0.left)) c.if-finite.branch)
+    (elim c.if-finite.branch [ then-finite w ↦ w.finite-is ∙ sym (and_true _ _ w.if-finite.true) | else-finite w ↦ w.finite-is ∙ sym (and_false _ _ w.if-finite.false) ])
 
 pub returns-clause-scaling_after : goal.returns-clause-scaling_after
 returns-clause-scaling_after c = (sharing_end c.loop-c.invariant c.loop-c-test.false).0

@@ -19,7 +19,9 @@ loop-r-preserved c = placing_turn c.loop-r.invariant c.loop-r-test.true c.volume
 pub finite_numbers-requires : goal.finite_numbers-requires
 finite_numbers-requires c = omega (arith, placing_long c.loop-r.invariant, unknowns_most c.requires.limits)
 
--- OLD returns
--- 
---     rw (← c.unknowns-n.ensures)
---     (placing_end c.loop-r.invariant c.loop-r-test.false, placing_finite c.loop-r.invariant c.loop-r-test.false (omega arith) c.finite_numbers.ensures)
+pub returns-clause-scaling_after : goal.returns-clause-scaling_after
+returns-clause-scaling_after c = rw (← c.unknowns-n.ensures) (placing_end c.loop-r.invariant c.loop-r-test.false)
+
+pub returns-clause-value : goal.returns-clause-value
+returns-clause-value c =
+    rw (← c.unknowns-n.ensures) (placing_finite c.loop-r.invariant c.loop-r-test.false (omega arith) c.finite_numbers.ensures)

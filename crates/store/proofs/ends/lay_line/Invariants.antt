@@ -1,0 +1,11 @@
+-- `store::ends::lay_line` meets its contract. The invariant: the first m ends are laid.
+-- Assumes nothing.
+use Prim.Native.Nat.{◌-◌}
+use lib.ListN.{set}
+use Rattle.numbers.specs.Lists.{entry_at}
+use Rattle.numbers.proofs.ListLaws.{Laying}
+use Rattle.numbers.proofs.ElementLaws.{alone}
+use Rattle.store.proofs.ends.lay_line.Given as goal
+
+abbrev pub invariant-loop-m : goal.invariant-loop-m
+invariant-loop-m l = Laying set (alone (entry_at l.f.ends)) l.n l.k l.initial.ends l.ends l.next l.m

@@ -1,0 +1,53 @@
+-- `store::needs::count` meets its contract.
+-- Assumes nothing.
+use native.Mathlib.Omega.{arith}
+use Rattle.store.proofs.NeedLaws.{sums_few, only_few, needs_are}
+use Rattle.store.proofs.needs.count.Goals as goal
+
+pub edges_from-first-requires-clause-limits : goal.edges_from-first-requires-clause-limits
+edges_from-first-requires-clause-limits c = c.requires.limits
+
+pub edges_from-first-requires-clause-n_bound : goal.edges_from-first-requires-clause-n_bound
+edges_from-first-requires-clause-n_bound c = (omega arith, c.requires.m_bound)
+
+pub edges_from-first-requires-clause-has_lines : goal.edges_from-first-requires-clause-has_lines
+edges_from-first-requires-clause-has_lines c = c.requires.has_lines
+
+pub edges_from-fine-requires-clause-limits : goal.edges_from-fine-requires-clause-limits
+edges_from-fine-requires-clause-limits c = c.requires.limits
+
+pub edges_from-fine-requires-clause-n_bound : goal.edges_from-fine-requires-clause-n_bound
+edges_from-fine-requires-clause-n_bound c = (omega arith, c.requires.m_bound)
+
+pub edges_from-fine-requires-clause-has_lines : goal.edges_from-fine-requires-clause-has_lines
+edges_from-fine-requires-clause-has_lines c = c.requires.has_lines
+
+pub edges_from-coarse-requires-clause-limits : goal.edges_from-coarse-requires-clause-limits
+edges_from-coarse-requires-clause-limits c = c.requires.limits
+
+pub edges_from-coarse-requires-clause-n_bound : goal.edges_from-coarse-requires-clause-n_bound
+edges_from-coarse-requires-clause-n_bound c = (omega arith, c.requires.m_bound)
+
+pub edges_from-coarse-requires-clause-has_lines : goal.edges_from-coarse-requires-clause-has_lines
+edges_from-coarse-requires-clause-has_lines c = c.requires.has_lines
+
+pub overflow_add-result : goal.overflow_add-result
+overflow_add-result c = omega (arith, sums_few _ _ c.edges_from-first.ensures c.edges_from-fine.ensures c.edges_from-coarse.ensures c.requires.limits c.requires.m_bound)
+
+pub overflow_add-result-2 : goal.overflow_add-result-2
+overflow_add-result-2 c = omega (arith, sums_few _ _ c.edges_from-first.ensures c.edges_from-fine.ensures c.edges_from-coarse.ensures c.requires.limits c.requires.m_bound, only_few c.args.choice c.edges_from-coarse.result c.only-averaged.ensures)
+
+pub overflow_add-result-3 : goal.overflow_add-result-3
+overflow_add-result-3 c = omega (arith, sums_few _ _ c.edges_from-first.ensures c.edges_from-fine.ensures c.edges_from-coarse.ensures c.requires.limits c.requires.m_bound, c.requires.m_bound)
+
+pub overflow_add-result-4 : goal.overflow_add-result-4
+overflow_add-result-4 c = omega (arith, sums_few _ _ c.edges_from-first.ensures c.edges_from-fine.ensures c.edges_from-coarse.ensures c.requires.limits c.requires.m_bound, c.requires.m_bound)
+
+pub stored_starts-requires : goal.stored_starts-requires
+stored_starts-requires c = let s = sums_few _ _ c.edges_from-first.ensures c.edges_from-fine.ensures c.edges_from-coarse.ensures c.requires.limits c.requires.m_bound in (c.requires.m_bound, omega (arith, s), omega (arith, s))
+
+pub overflow_add-fine : goal.overflow_add-fine
+overflow_add-fine c = omega (arith, sums_few _ _ c.edges_from-first.ensures c.edges_from-fine.ensures c.edges_from-coarse.ensures c.requires.limits c.requires.m_bound)
+
+pub returns : goal.returns
+returns c = needs_are _ _ c.edges_from-first.ensures c.edges_from-fine.ensures c.edges_from-coarse.ensures c.args.choice c.line_ends.ensures c.only-averaged.ensures c.forward_terms.ensures c.stored_starts.ensures c.operator_terms.ensures c.only.ensures
