@@ -15,17 +15,20 @@
 //   hold A B        with A to B - 1 doubles lent to hold the numbers
 
 #![tactic(auto)]
+
 mod reading;
 mod show;
 mod sweeps;
 mod text;
 
 use show::print;
+use std::io;
+use std::io::Read;
 use text::{ARGUMENTS, SIZE};
 
-fn title(line: &[u8]) {
-    print(line);
-    print(b"\n");
+fn title(rt: &impl Print, line: &[u8]) -> io::Result<()> {
+    rt.write_all(line)?;
+    print(rt, "\n")
 }
 
 // The line `file`.
@@ -45,60 +48,83 @@ fn put_bytes(line: &[u8], file: &mut [u8], words: &mut [usize]) {
 }
 
 // A line whose words are laid down first: where a line sets something, they stay.
-fn numbered(kind: u8, line: &[u8], file: &mut [u8], words: &mut [usize]) {
+fn numbered(
+    rt: &impl Print,
+    kind: u8,
+    line: &[u8],
+    file: &mut [u8],
+    words: &mut [usize],
+) -> io::Result<()> {
     let n = text::take(line, text::first(line), ARGUMENTS, words);
     text::put(words, text::COUNT, n);
     match kind {
-        b's' => text::put(words, SIZE, text::at(words, ARGUMENTS)),
-        b'l' => text::lend(words),
-        b'c' => sweeps::cuts(file, words),
-        b'k' => sweeps::kinds(file, words),
-        b'b' => sweeps::bits(file, words),
-        b'g' => sweeps::grow(file, words),
-        b'h' => sweeps::hold(file, words),
-        _ => sweeps::read(file, words),
+        b's' => {
+            text::put(words, SIZE, text::at(words, ARGUMENTS));
+            Ok(())
+        }
+        b'l' => {
+            text::lend(words);
+            Ok(())
+        }
+        b'c' => sweeps::cuts(rt, file, words),
+        b'k' => sweeps::kinds(rt, file, words),
+        b'b' => sweeps::bits(rt, file, words),
+        b'g' => sweeps::grow(rt, file, words),
+        b'h' => sweeps::hold(rt, file, words),
+        _ => sweeps::read(rt, file, words),
     }
 }
 
-fn run_line(line: &[u8], file: &mut [u8], words: &mut [usize]) {
+fn run_line(rt: &impl Print, line: &[u8], file: &mut [u8], words: &mut [usize]) -> io::Result<()> {
     let kind = text::byte(line, 0);
     if kind == b'#' {
-        title(line);
-        return;
+        return title(rt, line);
     }
     if kind == b'f' {
         set_file(line, file, words);
-        return;
+        return Ok(());
     }
     if kind == b'p' {
         put_bytes(line, file, words);
-        return;
+        return Ok(());
     }
-    numbered(kind, line, file, words);
+    numbered(rt, kind, line, file, words)
 }
 
 // The next line; whether there was one.
-fn next_line(file: &mut [u8], words: &mut [usize]) -> bool {
+fn next_line(
+    rt: &impl Print,
+    input: &mut impl Read,
+    file: &mut [u8],
+    words: &mut [usize],
+) -> io::Result<bool> {
     let mut line = [0u8; 8192];
-    let read = text::read_line(&mut line);
+    let read = text::read_line(input, &mut line)?;
     if read.ended {
-        return false;
+        return Ok(false);
     }
-    run_line(text::front(&line, read.bytes), file, words);
-    true
+    run_line(rt, text::front(&line, read.bytes), file, words)?;
+    Ok(true)
 }
 
 // A line in each turn, to the end of the input.
-fn run(file: &mut [u8], words: &mut [usize]) {
+fn run(
+    rt: &impl Print,
+    input: &mut impl Read,
+    file: &mut [u8],
+    words: &mut [usize],
+) -> io::Result<()> {
     for _ in 0..1000000usize {
-        if !next_line(file, words) {
-            return;
+        if !next_line(rt, input, file, words)? {
+            return Ok(());
         }
     }
+    Ok(())
 }
 
-fn main() {
+fn main(rt: HostRuntime) -> io::Result<()> {
     let mut file = [0u8; 8192];
     let mut words = [0usize; 256];
-    run(&mut file, &mut words);
+    let mut input = rt.stdin();
+    run(&rt, &mut input, &mut file, &mut words)
 }

@@ -78,7 +78,7 @@ fn fed(
             ovalues,
             scaling,
         );
-        at = std::num::wrapping_add_usize(at, n);
+        at = at.wrapping_add(n);
     }
     r
 }
@@ -138,7 +138,7 @@ pub fn read(file: &[u8], n: usize, words: &[usize]) -> Outcome {
     let mut ovalues_all = [x; 1536];
     let mut scaling_all = [x; 1536];
     let one = text::at(words, PLACES);
-    let two = std::num::wrapping_add_usize(one, one);
+    let two = one.wrapping_add(one);
     let held = doubles_lent(&mut held_all, text::at(words, HELD));
     let ends = words_lent(&mut ends_all, one);
     let eps = doubles_lent(&mut eps_all, two);

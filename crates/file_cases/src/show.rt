@@ -1,5 +1,6 @@
 // Printing, digests, and answers in runs.
 use crate::reading::Outcome;
+use std::io;
 
 // What stands in every lent place before a reading, as a word and as the bits of a double.
 pub const MARK: u64 = 0xc0de_c0de_c0de_c0de;
@@ -8,17 +9,16 @@ pub fn mark() -> f64 {
     f64::from_bits(MARK)
 }
 
-pub fn print(text: &[u8]) {
-    io::write_all(1, text);
+pub fn print(rt: &impl Print, text: &str) -> io::Result<()> {
+    rt.print(text)
 }
 
-pub fn decimal(n: usize) {
-    io::print_decimal(1, n as u64);
+pub fn decimal(rt: &impl Print, n: usize) -> io::Result<()> {
+    rt.print(n)
 }
 
-pub fn hex(n: u64) {
-    print(b" ");
-    io::print_hex(1, n, 1);
+pub fn hex(rt: &impl Print, n: u64) -> io::Result<()> {
+    print!(rt; " {n:x}")
 }
 
 // The bits of a double, and one pattern for those that are not finite.
@@ -32,7 +32,7 @@ fn bits(x: f64) -> u64 {
 // ---- digests
 
 pub fn mixed(d: u64, x: u64) -> u64 {
-    std::num::wrapping_add_u64((d << 7) | (d >> 57), x)
+    ((d << 7) | (d >> 57)).wrapping_add(x)
 }
 
 pub fn digest(first: u64, list: &[usize]) -> u64 {
@@ -54,17 +54,15 @@ pub fn double_digest(first: u64, list: &[f64]) -> u64 {
 // ---- answers
 
 // One answer, and what was left.
-pub fn answer(o: Outcome) {
+pub fn answer(rt: &impl Print, o: Outcome) -> io::Result<()> {
     if o.number == 0 {
-        print(b"levels ");
+        print(rt, "levels ")?;
     } else {
-        print(b"refused ");
-        decimal(o.number);
-        print(b" ");
+        print!(rt; "refused {} ", o.number)?;
     }
-    decimal(o.place);
-    hex(o.digest);
-    print(b"\n");
+    decimal(rt, o.place)?;
+    hex(rt, o.digest)?;
+    print(rt, "\n")
 }
 
 pub fn same(a: Outcome, b: Outcome) -> bool {
@@ -89,44 +87,41 @@ pub fn no_run() -> Run {
     }
 }
 
-fn end_run(r: Run) {
+fn end_run(rt: &impl Print, r: Run) -> io::Result<()> {
     if r.count == 0 {
-        return;
+        return Ok(());
     }
-    print(b" ");
+    print(rt, " ")?;
     if r.count != 1 {
-        decimal(r.count);
-        print(b"*");
+        print!(rt; "{}*", r.count)?;
     }
-    decimal(r.number);
-    print(b"/");
-    decimal(r.place);
+    print!(rt; "{}/{}", r.number, r.place)
 }
 
 // A run with one more answer; one that ends before it is printed.
-pub fn longer(r: Run, o: Outcome) -> Run {
+pub fn longer(rt: &impl Print, r: Run, o: Outcome) -> io::Result<Run> {
     let digest = mixed(r.digest, o.digest);
     if r.number == o.number && r.place == o.place {
-        return Run {
+        return Ok(Run {
             number: r.number,
             place: r.place,
-            count: std::num::wrapping_add_usize(r.count, 1),
+            count: r.count.wrapping_add(1),
             digest,
-        };
+        });
     }
-    end_run(r);
-    Run {
+    end_run(rt, r)?;
+    Ok(Run {
         number: o.number,
         place: o.place,
         count: 1,
         digest,
-    }
+    })
 }
 
 // The last run, and the digest.
-pub fn end(r: Run) {
-    end_run(r);
-    print(b"\ndigest");
-    hex(r.digest);
-    print(b"\n");
+pub fn end(rt: &impl Print, r: Run) -> io::Result<()> {
+    end_run(rt, r)?;
+    print(rt, "\ndigest")?;
+    hex(rt, r.digest)?;
+    print(rt, "\n")
 }

@@ -2,6 +2,7 @@
 use crate::show::Run;
 use crate::text::{ARGUMENTS, COUNT, HELD, PLACES, SIZE};
 use crate::{reading, show, text};
+use std::io;
 
 // The bytes of a piece where a reading needs no smaller ones.
 const PIECE: usize = 4096;
@@ -15,104 +16,117 @@ fn to(words: &[usize]) -> usize {
 }
 
 // One more reading of the first n bytes.
-fn more(r: Run, file: &[u8], n: usize, words: &[usize]) -> Run {
-    show::longer(r, reading::read(text::front(file, n), PIECE, words))
+fn more(rt: &impl Print, r: Run, file: &[u8], n: usize, words: &[usize]) -> io::Result<Run> {
+    show::longer(rt, r, reading::read(text::front(file, n), PIECE, words))
 }
 
 // The line `read`.
-pub fn read(all: &[u8], words: &[usize]) {
+pub fn read(rt: &impl Print, all: &[u8], words: &[usize]) -> io::Result<()> {
     let file = text::front(all, text::at(words, SIZE));
     let a = reading::read(file, 1, words);
     let b = reading::read(file, 7, words);
     let c = reading::read(file, PIECE, words);
-    show::answer(a);
+    show::answer(rt, a)?;
     if !show::same(a, b) {
-        show::print(b"in pieces of 7 bytes ");
-        show::answer(b);
+        show::print(rt, "in pieces of 7 bytes ")?;
+        show::answer(rt, b)?;
     }
     if !show::same(a, c) {
-        show::print(b"in pieces of 4096 bytes ");
-        show::answer(c);
+        show::print(rt, "in pieces of 4096 bytes ")?;
+        show::answer(rt, c)?;
     }
+    Ok(())
 }
 
 // The line `cuts`.
-pub fn cuts(file: &[u8], words: &[usize]) {
+pub fn cuts(rt: &impl Print, file: &[u8], words: &[usize]) -> io::Result<()> {
     let mut r = show::no_run();
     for n in from(words)..to(words) {
-        r = more(r, file, n, words);
+        r = more(rt, r, file, n, words)?;
     }
-    show::end(r);
+    show::end(rt, r)
 }
 
 // Each byte at an offset; then what stood there again.
-fn kinds_at(before: Run, file: &mut [u8], at: usize, words: &[usize]) -> Run {
+fn kinds_at(
+    rt: &impl Print,
+    before: Run,
+    file: &mut [u8],
+    at: usize,
+    words: &[usize],
+) -> io::Result<Run> {
     let old = text::byte(file, at);
     let n = text::at(words, SIZE);
     let mut r = before;
     let mut b = 0u8;
     for _ in 0..256usize {
         text::put_byte(file, at, b);
-        r = more(r, file, n, words);
-        b = std::num::wrapping_add_u8(b, 1);
+        r = more(rt, r, file, n, words)?;
+        b = b.wrapping_add(1);
     }
     text::put_byte(file, at, old);
-    r
+    Ok(r)
 }
 
 // The line `kinds`.
-pub fn kinds(file: &mut [u8], words: &[usize]) {
+pub fn kinds(rt: &impl Print, file: &mut [u8], words: &[usize]) -> io::Result<()> {
     let mut r = show::no_run();
     for k in 0..text::at(words, COUNT) {
-        let at = text::at(words, std::num::wrapping_add_usize(ARGUMENTS, k));
-        r = kinds_at(r, file, at, words);
+        let at = text::at(words, ARGUMENTS.wrapping_add(k));
+        r = kinds_at(rt, r, file, at, words)?;
     }
-    show::end(r);
+    show::end(rt, r)
 }
 
 // Each bit of a byte turned; then what stood there again.
-fn bits_at(before: Run, file: &mut [u8], at: usize, words: &[usize]) -> Run {
+fn bits_at(
+    rt: &impl Print,
+    before: Run,
+    file: &mut [u8],
+    at: usize,
+    words: &[usize],
+) -> io::Result<Run> {
     let old = text::byte(file, at);
     let n = text::at(words, SIZE);
     let mut r = before;
     let mut bit = 1u8;
     for _ in 0..8usize {
         text::put_byte(file, at, old ^ bit);
-        r = more(r, file, n, words);
+        r = more(rt, r, file, n, words)?;
         bit = bit << 1;
     }
     text::put_byte(file, at, old);
-    r
+    Ok(r)
 }
 
 // The line `bits`.
-pub fn bits(file: &mut [u8], words: &[usize]) {
+pub fn bits(rt: &impl Print, file: &mut [u8], words: &[usize]) -> io::Result<()> {
     let mut r = show::no_run();
     for at in from(words)..to(words) {
-        r = bits_at(r, file, at, words);
+        r = bits_at(rt, r, file, at, words)?;
     }
-    show::end(r);
+    show::end(rt, r)
 }
 
 // Readings with word k of what was lent set to each number of the line; then it is as before.
-fn lent(file: &[u8], words: &mut [usize], k: usize) {
+fn lent(rt: &impl Print, file: &[u8], words: &mut [usize], k: usize) -> io::Result<()> {
     let old = text::at(words, k);
     let n = text::at(words, SIZE);
     let mut r = show::no_run();
     for v in from(words)..to(words) {
         text::put(words, k, v);
-        r = more(r, file, n, words);
+        r = more(rt, r, file, n, words)?;
     }
     text::put(words, k, old);
-    show::end(r);
+    show::end(rt, r)
 }
 
 // The line `grow`.
-pub fn grow(file: &[u8], words: &mut [usize]) {
-    lent(file, words, PLACES);
+pub fn grow(rt: &impl Print, file: &[u8], words: &mut [usize]) -> io::Result<()> {
+    lent(rt, file, words, PLACES)
 }
 
 // The line `hold`.
-pub fn hold(file: &[u8], words: &mut [usize]) {
-    lent(file, words, HELD);
+pub fn hold(rt: &impl Print, file: &[u8], words: &mut [usize]) -> io::Result<()> {
+    lent(rt, file, words, HELD)
 }

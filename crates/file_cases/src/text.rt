@@ -1,4 +1,5 @@
 // The words of a line of the test file.
+use std::io;
 
 // Where in the words what the lines have set stands: the bytes of the file; the most cells; the doubles that hold the numbers; the places of each list. Then the count of
 // the words of a line, and behind it these words.
@@ -33,9 +34,9 @@ pub fn whole(n: u64) -> usize {
 // What a hexadecimal digit stands for.
 fn digit(b: u8) -> u8 {
     if b <= b'9' {
-        return std::num::wrapping_sub_u8(b, b'0');
+        return b.wrapping_sub(b'0');
     }
-    std::num::wrapping_sub_u8(b, b'a' - 10)
+    b.wrapping_sub(b'a' - 10)
 }
 
 // The word that begins at a place.
@@ -73,7 +74,7 @@ pub fn next(line: &[u8], w: Word) -> Word {
             behind: w.behind,
         };
     }
-    word_at(line, std::num::wrapping_add_usize(w.behind, 1))
+    word_at(line, w.behind.wrapping_add(1))
 }
 
 // The byte at a place, 0 past the end.
@@ -91,30 +92,30 @@ pub struct Read {
     pub ended: bool,
 }
 
-// The next line of standard input, without its newline.
-pub fn read_line(line: &mut [u8]) -> Read {
+// The next line of the input, without its newline.
+pub fn read_line(input: &mut impl io::Read, line: &mut [u8]) -> io::Result<Read> {
     let n = line.len();
     for k in 0..n {
         let mut one = [0u8; 1];
-        if io::read_full(0, &mut one) == 0 {
-            return Read {
+        if input.read(&mut one)? == 0 {
+            return Ok(Read {
                 bytes: k,
                 ended: true,
-            };
+            });
         }
         let b = byte(&one, 0);
         if b == b'\n' {
-            return Read {
+            return Ok(Read {
                 bytes: k,
                 ended: false,
-            };
+            });
         }
         line[k] = b;
     }
-    Read {
+    Ok(Read {
         bytes: n,
         ended: true,
-    }
+    })
 }
 
 // The first n bytes, or all.
@@ -150,7 +151,7 @@ pub fn take(line: &[u8], before: Word, from: usize, list: &mut [usize]) -> usize
         if !w.found {
             return k;
         }
-        put(list, std::num::wrapping_add_usize(from, k), whole(w.value));
+        put(list, from.wrapping_add(k), whole(w.value));
     }
     n
 }
@@ -202,7 +203,7 @@ fn digit_laid(l: Laying, b: u8, file: &mut [u8]) -> Laying {
     }
     put_byte(file, l.at, low_byte(value));
     Laying {
-        at: std::num::wrapping_add_usize(l.at, 1),
+        at: l.at.wrapping_add(1),
         from: l.from,
         times: l.times,
         value,
@@ -216,18 +217,18 @@ fn again(file: &mut [u8], from: usize, to: usize) -> usize {
     for k in from..to {
         let b = byte(file, k);
         put_byte(file, at, b);
-        at = std::num::wrapping_add_usize(at, 1);
+        at = at.wrapping_add(1);
     }
     at
 }
 
 // A word ends: its bytes are laid as many times as it says.
 fn word_laid(l: Laying, file: &mut [u8]) -> Laying {
-    let n = std::num::wrapping_sub_usize(l.at, l.from);
+    let n = l.at.wrapping_sub(l.from);
     let mut at = l.at;
     let mut k = 1u64;
     while k < l.times {
-        at = again(file, std::num::wrapping_sub_usize(at, n), at);
+        at = again(file, at.wrapping_sub(n), at);
         k += 1;
     }
     Laying {
@@ -265,7 +266,7 @@ pub fn take_bytes(line: &[u8], w: Word, at: usize, file: &mut [u8]) -> usize {
         value: 0,
         half: false,
     };
-    for k in std::num::wrapping_add_usize(w.behind, 1)..line.len() {
+    for k in w.behind.wrapping_add(1)..line.len() {
         l = laid(l, line[k], file);
     }
     l = word_laid(l, file);

@@ -1,12 +1,14 @@
 // Reads a file on standard input and prints a line for each of its levels, or only the refusal that ends it.
 
 #![tactic(auto)]
+
 ghost use Rattle.std.specs.Prelude.{◌<◌, ◌≤◌};
 
-use libc::{STDIN_FILENO, STDOUT_FILENO};
 use programs::lines::LevelLine;
 use programs::reader::Reader;
 use programs::{feed, lines, reader};
+use std::io;
+use std::io::Read;
 use store::handed::Cells;
 
 // The most cells that are taken, the places of a list, and the doubles of a list of numbers.
@@ -18,31 +20,20 @@ const DOUBLES: usize = 1536;
 
 // ---- printing
 
-fn text(t: &[u8]) {
-    io::write_all(STDOUT_FILENO, t);
+fn text(rt: &impl Print, t: &str) -> io::Result<()> {
+    rt.print(t)
 }
 
-fn number(n: usize) {
-    io::print_decimal(STDOUT_FILENO, n as u64);
+fn number(rt: &impl Print, n: usize) -> io::Result<()> {
+    rt.print(n)
 }
 
-fn two(name: &[u8], a: usize) {
-    text(name);
-    text(b" ");
-    number(a);
+fn two(rt: &impl Print, name: &str, a: usize) -> io::Result<()> {
+    print!(rt; "{name} {a}")
 }
 
-fn show_line(l: LevelLine) {
-    number(l.level);
-    text(b" ");
-    number(l.x);
-    text(b" ");
-    number(l.y);
-    text(b" ");
-    number(l.z);
-    text(b" ");
-    number(l.weights);
-    text(b"\n");
+fn show_line(rt: &impl Print, l: LevelLine) -> io::Result<()> {
+    println!(rt; "{} {} {} {} {}", l.level, l.x, l.y, l.z, l.weights)
 }
 
 // No setup has more than 12 levels.
@@ -55,25 +46,25 @@ fn least(n: usize) -> usize
     n
 }
 
-fn show_levels(c: Cells, starts: &[usize], levels: usize) {
+fn show_levels(rt: &impl Print, c: Cells, starts: &[usize], levels: usize) -> io::Result<()> {
     let n = least(levels);
     for level in 0..n {
-        show_line(lines::line(c, starts, PLACES, level));
+        show_line(rt, lines::line(c, starts, PLACES, level))?;
     }
+    Ok(())
 }
 
-fn show(r: Reader, held: &[f64], starts: &[usize]) {
+fn show(rt: &impl Print, r: Reader, held: &[f64], starts: &[usize]) -> io::Result<()> {
     let t = reader::finish(r);
     if t.number != 0 {
-        two(b"refused", t.number);
-        text(b" ");
-        number(t.place);
-        text(b"\n");
-        return;
+        two(rt, "refused", t.number)?;
+        text(rt, " ")?;
+        number(rt, t.place)?;
+        return text(rt, "\n");
     }
-    two(b"levels", t.place);
-    text(b"\n");
-    show_levels(lines::cells(r, held), starts, t.place);
+    two(rt, "levels", t.place)?;
+    text(rt, "\n")?;
+    show_levels(rt, lines::cells(r, held), starts, t.place)
 }
 
 // ---- reading
@@ -86,6 +77,7 @@ struct Turn {
 
 // The next piece of the input, and whether there was one.
 fn read_some(
+    input: &mut impl Read,
     r: Reader,
     held: &mut [f64],
     ends: &mut [usize],
@@ -100,16 +92,15 @@ fn read_some(
     ocolumns: &mut [usize],
     ovalues: &mut [f64],
     scaling: &mut [f64],
-) -> Turn {
+) -> io::Result<Turn> {
     let mut buf = [0u8; 4096];
-    let got = libc::read(STDIN_FILENO, &mut buf);
-    if got <= 0 {
-        return Turn {
+    let n = input.read(&mut buf)?;
+    if n == 0 {
+        return Ok(Turn {
             reader: r,
             go_on: false,
-        };
+        });
     }
-    let n = io::count(got, &buf);
     let fed = feed::feed(
         r,
         LIMIT,
@@ -128,10 +119,10 @@ fn read_some(
         ovalues,
         scaling,
     );
-    Turn {
+    Ok(Turn {
         reader: fed,
         go_on: true,
-    }
+    })
 }
 
 // A loop has to end, and nothing says that the input does: the turns are counted down from a number that no run uses up.
@@ -145,7 +136,7 @@ fn left(turns: u64, go_on: bool) -> u64
     0
 }
 
-fn main() {
+fn main(rt: HostRuntime) -> io::Result<()> {
     let mut held = [0.0; 256];
     let mut ends = [0usize; PLACES];
     let mut eps = [0.0; DOUBLES];
@@ -159,10 +150,12 @@ fn main() {
     let mut ocolumns = [0usize; PLACES];
     let mut ovalues = [0.0; DOUBLES];
     let mut scaling = [0.0; DOUBLES];
+    let mut input = rt.stdin();
     let mut r = reader::fresh();
     let mut turns = u64::MAX;
     while turns > 0 {
         let turn = read_some(
+            &mut input,
             r,
             &mut held,
             &mut ends,
@@ -177,10 +170,10 @@ fn main() {
             &mut ocolumns,
             &mut ovalues,
             &mut scaling,
-        );
+        )?;
         let next = turn.reader;
         r = next;
         turns = left(turns, turn.go_on);
     }
-    show(r, &held, &starts);
+    show(&rt, r, &held, &starts)
 }

@@ -24,7 +24,7 @@ use Rattle.numbers.proofs.Equations.{columns_of_nil}
 use Rattle.lattice.proofs.Equations.{next_axis_0, next_axis_1, next_axis_2, last_axis_0, last_axis_1, last_axis_2, with_component_is, neighbour_of_is}
 use Rattle.lattice.proofs.GridLaws.{place_inside, moved_inside, with_inside, shift_below, next_low, last_low}
 use Rattle.operators.specs.Relation.{Spot, Cube, Times}
-use Rattle.operators.specs.Relations0.{ahead, pick, div_cube}
+use Rattle.operators.specs.Relations0.{pick, div_cube}
 use Rattle.operators.specs.Levels.{is_bloch, spot_of}
 use Rattle.numbers.proofs.MemberLaws.{in_both, both_in}
 use Rattle.numbers.specs.Lists.{In}

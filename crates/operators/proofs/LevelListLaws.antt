@@ -1,7 +1,7 @@
 -- Galerkin's operator of the next level in lists: its starts and columns are laid first, then its numbers are worked out from the rows in the lists.
 -- And the lattice of a rediscretized level is within the limits.
 -- Assumes nothing.
-use Prim.Native.Nat.{ℕ, zero, suc, ◌+◌, ◌-◌, ◌*◌, ◌<◌, ◌≤◌}
+use Prim.Native.Nat.{ℕ, zero, suc, ◌+◌, ◌*◌, ◌<◌, ◌≤◌}
 use native.Mathlib.Omega.{arith}
 use mathlib.Core.Logic.{inl}
 use mathlib.Core.Path.{◌≡◌, refl, sym, ap, ◌∙◌, subst}
@@ -31,7 +31,7 @@ use Rattle.numbers.proofs.Tutorial.{columns_rows, numbers_rows, start_columns, s
 use Rattle.numbers.specs.declared.terms.Part.{Part}
 use Rattle.operators.specs.Galerkin.{galerkin_row, galerkin_numbers, fine_rows_read, columns_at, forward_rows_read, Columned, MetAll}
 use Rattle.operators.specs.LevelLists.{edges_on, OperatorIn, OperatorBefore}
-use Rattle.operators.specs.Levels.{averaged_on, forward_at, turned_at, galerkin_at, line_on, lattice_at, rediscretized_at, grid_at, ladder_of, pattern_row, spot_of, Base, Below}
+use Rattle.operators.specs.Levels.{forward_at, turned_at, galerkin_at, line_on, lattice_at, grid_at, ladder_of, pattern_row, spot_of, Below}
 use Rattle.operators.specs.Numbered.{Right}
 use Rattle.operators.specs.Pattern.{Ladder, Row}
 use Rattle.operators.specs.Rediscretized.{cells_on, rediscretized_grid, rediscretized_lattice}

@@ -15,7 +15,7 @@ use Rattle.numbers.specs.Terms.{Term, columns_of}
 use Rattle.numbers.specs.Lists.{In, each, contains}
 use Rattle.numbers.proofs.EachLaws.{columns_append}
 use Rattle.numbers.proofs.MemberLaws.{in_append, in_left, in_right, each_in, in_each, contains_in, in_contains}
-use Rattle.lattice.proofs.ColumnLaws.{fixed_at_lem, free_in, in_free, nodes_in, in_nodes, index_one, free_append}
+use Rattle.lattice.proofs.ColumnLaws.{fixed_at_lem, free_in, in_free, nodes_in, in_nodes, index_one}
 
 -- column c is the number of a position for which P holds
 pub record Found (l : FullLattice) (P : Position → Type 0) (c : ℕ) : Type 0 where

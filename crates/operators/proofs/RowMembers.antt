@@ -15,7 +15,7 @@ use Rattle.numbers.proofs.MemberLaws.{contains_in, each_in, in_each}
 use Rattle.numbers.proofs.CollectLaws.{inserted_rises, collected_rises}
 use Rattle.operators.specs.Galerkin.{forward_term, forward_terms, fine_terms, galerkin_terms, with_diagonal, galerkin_row}
 use Rattle.numbers.proofs.LoopLaws.{columns_one}
-use Rattle.numbers.proofs.GatheredLaws.{columns_kept, inserted_in, in_inserted, gathered_in, in_gathered, rises_span}
+use Rattle.numbers.proofs.GatheredLaws.{columns_kept, inserted_in, in_inserted, gathered_in, in_gathered}
 
 module _ (A P : ℕ → List Term) where
   forward_columns_are : (w : C64) (a : Term) → columns_of (forward_terms P w a) ≡ columns_of (P a.column)

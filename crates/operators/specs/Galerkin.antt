@@ -1,7 +1,7 @@
 -- Galerkin's operator rows (docs/SPECIFICATION.md, 9): over the turned row, the fine row by column and the forward row, (weight × value) × weight,
 -- summed by column from +0; an untouched diagonal is 1. A, P and R give the rows of the fine operator, of the prolongation and of its transpose.
 -- Assumes nothing.
-use Rattle.std.specs.Prelude.{ℕ, ◌+◌, ◌-◌, ◌*◌, ◌<◌, ◌≤◌, ◌^◌, ◌≡◌, ◌≢◌, Bool, true, cond, List, [], ◌∷◌, eqb, length, get_or, replicate, Float}
+use Rattle.std.specs.Prelude.{ℕ, ◌+◌, ◌*◌, ◌<◌, ◌≤◌, ◌^◌, ◌≡◌, ◌≢◌, Bool, true, cond, List, [], ◌∷◌, eqb, length, get_or, replicate, Float}
 use Rattle.numbers.specs.declared.C64.{C64}
 use Rattle.numbers.specs.Complex.{zero_f, one_number, zero_number, product}
 use Rattle.numbers.specs.Places.{places, number_at, set_number}

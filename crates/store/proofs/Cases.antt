@@ -16,7 +16,7 @@ use Rattle.numbers.specs.Lists.{all_finite, before, contains, each, laid_by, rep
 use Rattle.numbers.specs.Places.{number_at, set_number}
 use Rattle.numbers.specs.Terms.{columns_of, numbers_of}
 use Rattle.numbers.specs.Transpose.{turned_from, turned_row}
-use Rattle.lattice.specs.Check.{Verdict, accepted, bad_cells, bad_length, bad_number, check_all, check_entries, check_grid, check_lengths, check_of, check_scalars, first_bad}
+use Rattle.lattice.specs.Check.{accepted, bad_cells, bad_length, bad_number, check_all, check_entries, check_grid, check_lengths, check_of, check_scalars, first_bad}
 use Rattle.lattice.specs.Curls.{ahead, behind, curl_e, curl_e_at, curl_h, curl_h_at, divergence_of, free_nodes, gradient_at, gradient_of, half_weight, node_weight, term_here}
 use Rattle.lattice.specs.Grid.{at_of, axis3, cells_of, index_of, last_axis, moved_to, n_of, next_axis, place_on, step_of, unknowns_of, with_component}
 use Rattle.lattice.specs.Lattice.{edges_of, halves_at, lattice_of, nodes_at, stretch_at}

@@ -5,7 +5,6 @@ use mathlib.Core.Path.{◌≡◌, refl, sym, ap, ◌∙◌}
 use mathlib.Core.Bool.{Bool, true, false, cond, ◌&&◌}
 use native.Mathlib.Omega.{arith}
 use native.Mathlib.Decide.{ℕ_discrete, dec_lt}
-use lib.Dec.{eqb, ltb}
 use borrow.Author.Tests.{eq-eqb, ne_eqb, lt-ltb, le-ltb}
 use Rattle.numbers.specs.declared.C64.{C64}
 use Rattle.numbers.specs.Lists.{tabulate, all_finite}
@@ -17,7 +16,6 @@ use Rattle.lattice.specs.Check.{Verdict, accepted, refused, and_then}
 use Rattle.lattice.specs.Lattice.{FullLattice}
 use Rattle.store.specs.Setup.{all_to, eps_part, averaged_part, operator_numbers, forward_numbers, turned_numbers, transfer_fine, level_fine}
 use Rattle.store.specs.Phases.{noted, first_of, lower_of, weights_fine, operator_fine, averaged_fine, scale_fine}
-use Rattle.store.specs.Steps.{code_of}
 use Rattle.store.specs.declared.Choice.{Choice}
 use Rattle.store.specs.declared.Choice.TheVariants.{Galerkin, Rediscretized}
 

@@ -8,10 +8,10 @@ use mathlib.Core.List.{List}
 use lib.ListN.{length}
 use lib.Ieee.{Float}
 use Rattle.numbers.specs.declared.C64.{C64}
-use Rattle.numbers.specs.Lists.{rows, laid, laid_numbers, all_finite, sum_to}
-use Rattle.numbers.specs.Places.{number_at, set_number}
+use Rattle.numbers.specs.Lists.{rows, laid, laid_numbers, all_finite}
+use Rattle.numbers.specs.Places.{set_number}
 use Rattle.numbers.proofs.Equations.{laid_by_nil, rows_zero}
-use Rattle.lattice.specs.Check.{Verdict, accepted, refused}
+use Rattle.lattice.specs.Check.{accepted, refused}
 use Rattle.lattice.specs.Grid.{Limits}
 use Rattle.lattice.specs.Lattice.{FullLattice}
 use Rattle.numbers.proofs.ListLaws.{laid_numbers_length}
@@ -19,11 +19,10 @@ use Rattle.store.proofs.FineLaws.{turned_fine}
 use Rattle.store.proofs.SeamLaws.{operators_ready}
 use Rattle.store.proofs.ShortLaws.{transfer_room, operator_room}
 use Rattle.store.proofs.ScalingLaws.{turned_stored, turned_in_lem}
-use Rattle.operators.specs.LevelLists.{edges_on}
-use Rattle.store.specs.Store.{Store, Sizes, sizes, lent}
+use Rattle.store.specs.Store.{Store, sizes, lent}
 use Rattle.store.specs.Layout.{Enough, eps_off}
-use Rattle.store.specs.Setup.{ends_part, eps_part, averaged_part, forward_numbers, turned_numbers, operator_numbers, scale_part, only_numbers, filled, all_to, level_fine}
-use Rattle.store.specs.Phases.{TransferRoom, TransfersLeft, OperatorRoom, OperatorsLeft, AveragedRoom, ScalingRoom, first_of, lower_of, weights_fine, operator_fine, averaged_fine, scale_fine}
+use Rattle.store.specs.Setup.{ends_part, eps_part, averaged_part, forward_numbers, turned_numbers, operator_numbers, only_numbers, filled, all_to, level_fine}
+use Rattle.store.specs.Phases.{TransfersLeft, OperatorRoom, AveragedRoom, ScalingRoom, first_of, lower_of, weights_fine, operator_fine, averaged_fine, scale_fine}
 use Rattle.store.specs.FillSteps.{TransfersBy, OperatorsReady, OperatorsDone}
 use Rattle.store.specs.PhaseSteps.{SoleLeft, RediscretizedDone, ScalingLeft}
 use Rattle.store.specs.Ready.{ChosenRoom, ScalingAsked, chosen_fine, operators_code, ChosenLeft, ChosenDone, scaling_code, ScaledLeft, ScalingDone}

@@ -31,7 +31,7 @@ use Rattle.store.specs.PhaseSteps.{behind_of}
 use Rattle.store.specs.Places.{Place}
 use Rattle.store.specs.Plan.{Stands}
 use Rattle.store.specs.Renewed.{Fixed, Five, five, FiveRoom, Shaped}
-use Rattle.store.specs.Rows.{Row, averaged, forward, turned, operator, kind_of, from, count, writes, rules}
+use Rattle.store.specs.Rows.{Row, operator, kind_of, from, count, writes, rules}
 use Rattle.store.specs.Shape.{words, marks_at, next_marks, MarksFit, words_by, part_words, PartAt, PartSet, LevelSet, ShapeOf}
 use Rattle.store.specs.Spots.{Kind, permittivity, forwards, turneds, entries, scales, place}
 use Rattle.store.specs.Work.{RowsAt}

@@ -3,7 +3,7 @@
 use Prim.Native.Nat.{ℕ, zero, suc, ◌+◌, ◌*◌, ◌/◌, ◌%◌, ◌≤◌, ◌<◌}
 use mathlib.Core.Path.{◌≡◌, refl, sym, ap, ◌∙◌}
 use mathlib.Core.List.{List, [], ◌∷◌, ◌++◌, append_assoc}
-use mathlib.Core.Bool.{Bool, true, false, cond}
+use mathlib.Core.Bool.{Bool, cond}
 use native.Mathlib.Omega.{arith}
 use Rattle.lattice.specs.Grid.{Limits}
 use Rattle.lattice.specs.Lattice.{FullLattice}
@@ -16,7 +16,7 @@ use Rattle.store.specs.Plan.{reached}
 use Rattle.store.specs.Spots.{permittivity, spot, cells}
 use Rattle.store.specs.Rows.{Row, coarse, averaged, forward, turned, volume, share, operator, only, group, groups, full, rules}
 use Rattle.store.specs.Reach.{hit}
-use Rattle.store.specs.Parts.{row_by, size_by, part_size, part_row, part_off, part_count, flag_at, flagged_to, flagged_part, flagged_parts, flagged_rows, FlagsOf}
+use Rattle.store.specs.Parts.{row_by, size_by, part_size, part_row, part_off, part_count, flag_at, flagged_to, flagged_parts, flagged_rows, FlagsOf}
 use Rattle.store.specs.declared.Choice.{Choice}
 use Rattle.store.specs.declared.Choice.TheVariants.{Galerkin, Rediscretized}
 use Rattle.store.proofs.PlanWork.{picked, picked_append}

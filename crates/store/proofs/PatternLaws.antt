@@ -1,9 +1,9 @@
 -- The store's columns are what the code of the layers below scans out of the relations, before any number; and the flags of forward rows and of Galerkin's in the form that costs least.
 -- Assumes nothing.
 use Prim.Native.Nat.{ℕ, suc, ◌<◌}
-use mathlib.Core.Path.{◌≡◌, refl, sym, ap, subst}
-use mathlib.Core.Logic.{◌⊎◌, ⊎_elim}
-use mathlib.Core.Bool.{Bool, true, false, ◌||◌}
+use mathlib.Core.Path.{◌≡◌, sym, ap, subst}
+use mathlib.Core.Logic.{⊎_elim}
+use mathlib.Core.Bool.{Bool, ◌||◌}
 use mathlib.Core.List.{List}
 use native.Mathlib.Omega.{arith}
 use Rattle.numbers.specs.Lists.{each, start_of}

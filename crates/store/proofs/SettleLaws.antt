@@ -11,7 +11,7 @@ use lib.Ieee.{Float}
 use borrow.Author.Tests.{eq-eqb, ne_eqb}
 use Rattle.numbers.specs.declared.C64.{C64}
 use Rattle.numbers.specs.Complex.{zero_f}
-use Rattle.numbers.specs.Lists.{rows, laid, laid_numbers}
+use Rattle.numbers.specs.Lists.{rows, laid_numbers}
 use Rattle.numbers.proofs.ListLaws.{laid_length, laid_numbers_length}
 use Rattle.lattice.specs.Check.{Verdict, accepted, refused, and_then, is_sound, check_of}
 use Rattle.lattice.specs.Grid.{Limits, unknowns_of}
@@ -37,8 +37,7 @@ use Rattle.store.proofs.NeedLaws.{never_twice}
 use Rattle.lattice.proofs.LatticeLaws.{lattice_grid}
 use Rattle.store.specs.Steps.{answer_of, filling, code_of, fill_of, LinesFound, m_of, structure_by, settled_of}
 use Rattle.store.specs.declared.Choice.{Choice}
-use Rattle.store.specs.declared.setup.Answer.{Answer}
-use Rattle.store.specs.declared.setup.Answer.TheVariants.{Levels, TooMany, Short, NotFinite}
+use Rattle.store.specs.declared.setup.Answer.TheVariants.{TooMany}
 
 -- ---- the lines that the level loop found
 

@@ -1,7 +1,7 @@
 -- Laws of the store's numbers: looks that agree on the doubles of some numbers agree on the numbers. Assumes nothing.
-use Prim.Native.Nat.{ℕ, ◌+◌, ◌-◌, ◌*◌}
+use Prim.Native.Nat.{ℕ, ◌+◌, ◌*◌}
 use mathlib.Core.Path.{◌≡◌, refl, sym, ap, subst}
-use mathlib.Core.Logic.{◌⊎◌, inl, inr, ⊎_elim}
+use mathlib.Core.Logic.{inl, inr, ⊎_elim}
 use mathlib.Core.List.{List, ◌∷◌, map, []}
 use Rattle.numbers.specs.Lists.{each, In}
 use Rattle.numbers.proofs.MemberLaws.{in_left, in_right, in_append}

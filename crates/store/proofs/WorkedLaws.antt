@@ -1,19 +1,19 @@
 -- Rows worked out anew: none, one, some behind others; and a whole change. Over any store of places.
 -- Assumes nothing.
-use Prim.Native.Nat.{ℕ, zero, suc}
+use Prim.Native.Nat.{ℕ, suc}
 use mathlib.Core.Path.{◌≡◌, refl, sym, ap, ◌∙◌}
-use mathlib.Core.Logic.{◌⊎◌, inl, inr, ⊎_elim}
+use mathlib.Core.Logic.{inl, inr}
 use mathlib.Core.List.{List, [], ◌∷◌, ◌++◌}
 use mathlib.Core.Option.{Option, none, some}
-use mathlib.Core.Bool.{Bool, true, false}
+use mathlib.Core.Bool.{true, false}
 use native.Mathlib.Omega.{arith}
 use Rattle.numbers.specs.Lists.{In}
 use Rattle.store.specs.Space.{Space, Look, Lawful, puts}
 use Rattle.store.specs.Plan.{Rules, step, run, row_fine, first_bad, Stands}
-use Rattle.store.specs.Book.{Outcome, Answer, Done, NotFinite, outcome, settle}
+use Rattle.store.specs.Book.{Outcome, outcome, settle}
 use Rattle.store.specs.Worked.{code, answer_by, Worked, Tried}
 use Rattle.store.proofs.PlaceLaws.{puts_is, puts_shape, puts_out, puts_back}
-use Rattle.store.proofs.PlanWork.{run_append, first_append, first_no, first_go, or_else}
+use Rattle.store.proofs.PlanWork.{run_append, first_append, or_else}
 
 code_none : (o : Option ℕ) → code o ≡ 0 → o ≡ none
 code_none none e = refl

@@ -3,7 +3,7 @@
 use Rattle.std.specs.Prelude.{◌≡◌, List, [], ◌∷◌, ℕ}
 use Rattle.std.proofs.Math.Option.{Option, none, some}
 use Rattle.numbers.specs.Lists.{In}
-use Rattle.store.specs.Space.{Space, Look, Lawful, puts}
+use Rattle.store.specs.Space.{Space, Look, puts}
 use Rattle.store.specs.Plan.{Rules, run, first_bad, reached, Free}
 
 -- the changes that are told: each sets some base places, its spots; `bad` refuses one before anything is computed, and says why

@@ -1,15 +1,14 @@
 -- A change, and the book of permittivities (docs/SPECIFICATION.md, 12): total functions on input and lists, every refusal in the order of the table.
 -- A setup once more, as the plan of all rows.
 -- Assumes nothing.
-use Rattle.std.specs.Prelude.{ℕ, zero, suc, ◌+◌, ◌-◌, ◌*◌, ◌/◌, ◌%◌, List, [], ◌∷◌, Bool, true, ◌&&◌, ◌||◌, cond, eqb, leb, ltb, get_or, Float}
+use Rattle.std.specs.Prelude.{ℕ, suc, ◌+◌, ◌*◌, List, [], ◌∷◌, Bool, true, ◌&&◌, ◌||◌, cond, eqb, leb, ltb, get_or, Float}
 use Rattle.std.proofs.Math.Option.{Option, none, some}
-use Rattle.numbers.specs.declared.C64.{C64}
 use Rattle.numbers.specs.Places.{set_number}
 use Rattle.lattice.specs.Check.{Verdict, accepted, refused, check_of, check_stretches}
 use Rattle.lattice.specs.Grid.{unknowns_of}
 use Rattle.lattice.specs.Lattice.{FullLattice}
 use Rattle.operators.specs.LevelLists.{edges_on}
-use Rattle.store.specs.Book.{Answer, Done, Bad, NotFinite, Outcome, set_up, change}
+use Rattle.store.specs.Book.{Answer, Done, Bad, NotFinite, set_up, change}
 use Rattle.store.specs.Store.{Store, sizes, zeroed}
 use Rattle.store.specs.Layout.{next_edges, forward_off, turned_off, operator_off, starts_off, stored_starts, ends_off}
 use Rattle.store.specs.declared.Choice.{Choice}

@@ -1,6 +1,6 @@
 -- Changes of the store (docs/SPECIFICATION.md, 12): each sets one permittivity of level 0. Assumes nothing: these are definitions.
-use Rattle.std.specs.Prelude.{ℕ, List, [], ◌∷◌, cond, ltb}
-use Rattle.std.proofs.Math.Option.{Option, none, some}
+use Rattle.std.specs.Prelude.{ℕ, [], ◌∷◌, cond, ltb}
+use Rattle.std.proofs.Math.Option.{none, some}
 use Rattle.numbers.specs.declared.C64.{C64}
 use Rattle.lattice.specs.Check.{bad_number}
 use Rattle.lattice.specs.Lattice.{FullLattice}

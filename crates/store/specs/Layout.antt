@@ -1,7 +1,7 @@
 -- Where each level's part stands in the store's lists (docs/SPECIFICATION.md, 11): structure alone, from the lattice, the choice and the count m of
 -- transfers; there are m + 1 levels. And how many places each list needs.
 -- Assumes nothing.
-use Rattle.std.specs.Prelude.{ℕ, zero, suc, ◌+◌, ◌*◌, ◌/◌, ◌%◌, ◌≤◌, List, Bool, cond, ltb, length}
+use Rattle.std.specs.Prelude.{ℕ, zero, suc, ◌+◌, ◌*◌, ◌/◌, ◌%◌, ◌≤◌, List, cond, ltb, length}
 use Rattle.numbers.specs.declared.C64.{C64}
 use Rattle.numbers.specs.Complex.{no_number}
 use Rattle.lattice.specs.Lattice.{FullLattice}

@@ -1,7 +1,7 @@
 -- The phases of a setup: each lays its parts of all levels into the lists it is lent, and answers the first coarse level that has a number that is not
 -- finite. All transfers first, then all operators, then the scaling.
 -- Assumes nothing.
-use Rattle.std.specs.Prelude.{ℕ, zero, suc, ◌+◌, ◌*◌, ◌/◌, ◌%◌, ◌<◌, ◌≤◌, ◌≡◌, List, [], Bool, ◌&&◌, cond, eqb, ltb, length, get_or, Float}
+use Rattle.std.specs.Prelude.{ℕ, zero, suc, ◌+◌, ◌*◌, ◌<◌, ◌≤◌, ◌≡◌, List, [], Bool, ◌&&◌, cond, eqb, ltb, length, get_or, Float}
 use Rattle.numbers.specs.declared.C64.{C64}
 use Rattle.numbers.specs.declared.terms.Part.{Part}
 use Rattle.numbers.specs.Lists.{tabulate, rows, laid, laid_numbers, all_finite, read_from}
@@ -9,13 +9,13 @@ use Rattle.lattice.specs.declared.line.Line.{Line}
 use Rattle.lattice.specs.declared.levels.Three.{Three}
 use Rattle.lattice.specs.Lattice.{FullLattice}
 use Rattle.lattice.specs.Line.{packed}
-use Rattle.operators.specs.LevelLists.{edges_on, TransferIn, OperatorIn}
+use Rattle.operators.specs.LevelLists.{edges_on, TransferIn}
 use Rattle.operators.specs.Levels.{turned_at, volumes_at}
 use Rattle.operators.specs.Volumes.{shares_finite}
 use Rattle.store.specs.Layout.{next_edges, forward_off, turned_off, operator_off, starts_off, stored_starts, eps_off, averaged_off, scale_off}
-use Rattle.store.specs.Setup.{ends_part, eps_part, averaged_part, forward_starts_of, forward_cols_of, forward_numbers, turned_starts_of, turned_cols_of, turned_numbers, operator_starts_of, operator_cols_of, operator_numbers, scale_part}
+use Rattle.store.specs.Setup.{ends_part, eps_part, averaged_part, forward_starts_of, forward_cols_of, forward_numbers, turned_starts_of, turned_cols_of, turned_numbers, operator_starts_of, operator_cols_of, operator_numbers}
 use Rattle.store.specs.declared.Choice.{Choice}
-use Rattle.store.specs.declared.Choice.TheVariants.{Galerkin, Rediscretized}
+use Rattle.store.specs.declared.Choice.TheVariants.{Rediscretized}
 
 -- ---- lines
 

@@ -1,6 +1,6 @@
 -- The store as places: a word or a double of one of its lists each. What the plan of rows is stated over.
 -- Assumes nothing.
-use Rattle.std.specs.Prelude.{List, ℕ, ◌<◌, get_or, set, Float}
+use Rattle.std.specs.Prelude.{ℕ, ◌<◌, get_or, set, Float}
 use Rattle.std.proofs.Math.Decide.{ℕ_discrete}
 use Rattle.std.specs.Float.{nan}
 use Rattle.store.specs.Space.{Space}

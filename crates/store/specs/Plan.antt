@@ -1,6 +1,6 @@
 -- Rows over a store: each row writes some places, and computes their values from the places that it reads.
 -- A run computes the rows of a plan, one after another; a change computes only the rows that it reaches. Assumes nothing: these are definitions.
-use Rattle.std.specs.Prelude.{◌≡◌, ◌⊎◌, List, [], ◌∷◌, ◌++◌, Bool, true, false, cond, ◌&&◌, ℕ, ◌≤◌}
+use Rattle.std.specs.Prelude.{◌≡◌, ◌⊎◌, List, [], ◌∷◌, ◌++◌, Bool, true, cond, ◌&&◌, ℕ, ◌≤◌}
 use Rattle.std.proofs.Math.Option.{Option, none, some}
 use Rattle.numbers.specs.Lists.{In}
 use Rattle.store.specs.Space.{Space, Look, Lawful, puts, meets}

@@ -1,7 +1,7 @@
 -- The operators and the scaling of all levels, of either choice: what they ask for, and what they leave for every reader f of the given permittivities of
 -- which the lists have what is asked.
 -- Assumes nothing.
-use Rattle.std.specs.Prelude.{ℕ, zero, suc, ◌+◌, ◌*◌, ◌<◌, ◌≤◌, ◌≡◌, Bool, true, cond, List, Float, length}
+use Rattle.std.specs.Prelude.{ℕ, zero, suc, ◌*◌, ◌≤◌, ◌≡◌, Bool, cond, List, Float, length}
 use Rattle.numbers.specs.declared.C64.{C64}
 use Rattle.numbers.specs.Lists.{rows, laid_numbers, all_finite}
 use Rattle.lattice.specs.Lattice.{FullLattice}

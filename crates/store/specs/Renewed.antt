@@ -1,6 +1,6 @@
 -- What the functions of a change promise: the lists that it reads only and the lists of numbers, and rows worked out anew in them.
 -- Assumes nothing.
-use Rattle.std.specs.Prelude.{ℕ, suc, ◌+◌, ◌*◌, ◌≤◌, ◌<◌, ◌≡◌, List, length, Float}
+use Rattle.std.specs.Prelude.{ℕ, suc, ◌*◌, ◌≤◌, List, length, Float}
 use Rattle.lattice.specs.Grid.{Limits}
 use Rattle.lattice.specs.Lattice.{FullLattice}
 use Rattle.operators.specs.LevelLists.{edges_on}

@@ -1,6 +1,6 @@
 -- The rows of the store and their rules (docs/SPECIFICATION.md, 12): each row is a run of numbers of one list, and its rule sees the store only through a look.
 -- Assumes nothing: these are definitions.
-use Rattle.std.specs.Prelude.{ℕ, zero, suc, ◌+◌, ◌*◌, List, [], ◌∷◌, ◌++◌, map, Bool, cond, length}
+use Rattle.std.specs.Prelude.{ℕ, zero, suc, ◌+◌, ◌*◌, List, [], ◌∷◌, ◌++◌, map, length}
 use Rattle.numbers.specs.declared.C64.{C64}
 use Rattle.lattice.specs.Lattice.{FullLattice}
 use Rattle.numbers.specs.Terms.{Term}
@@ -36,7 +36,7 @@ use Rattle.store.specs.Spots.{
   laid_from,
   finite_place,
 }
-use Rattle.store.specs.Layout.{forward_cols, turned_cols, operator_cols, first_stored, eps_off, averaged_off, forward_off, turned_off, operator_off, scale_off}
+use Rattle.store.specs.Layout.{forward_cols, turned_cols, operator_cols, eps_off, averaged_off, forward_off, turned_off, operator_off, scale_off}
 use Rattle.store.specs.declared.Choice.{Choice}
 use Rattle.store.specs.declared.Choice.TheVariants.{Galerkin, Rediscretized}
 

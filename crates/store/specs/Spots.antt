@@ -3,7 +3,7 @@
 use Rattle.std.specs.Prelude.{ℕ, ◌+◌, ◌-◌, ◌*◌, ◌/◌, ◌%◌, List, [], ◌∷◌, Bool, true, cond, eqb, get_or, Float}
 use Rattle.numbers.specs.declared.C64.{C64}
 use Rattle.numbers.specs.Complex.{no_number, finite_double}
-use Rattle.numbers.specs.Lists.{tabulate, each}
+use Rattle.numbers.specs.Lists.{tabulate}
 use Rattle.store.specs.Space.{Look}
 use Rattle.store.specs.Places.{Place, Val, space, ends_at, permittivities_at, forward_starts_at, forward_columns_at, forward_values_at, turned_starts_at, turned_columns_at, turned_values_at, operator_starts_at, operator_columns_at, operator_values_at, scaling_at}
 

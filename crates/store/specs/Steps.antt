@@ -1,6 +1,6 @@
 -- The steps of a setup over the record of lists: the fill, and the setup behind the checks of its input.
 -- Assumes nothing.
-use Rattle.std.specs.Prelude.{ℕ, zero, suc, ◌-◌, ◌<◌, ◌≤◌, Bool, true, false, cond, ◌≡◌, List}
+use Rattle.std.specs.Prelude.{ℕ, zero, suc, ◌-◌, ◌<◌, ◌≤◌, Bool, cond, ◌≡◌, List}
 use Rattle.numbers.specs.declared.C64.{C64}
 use Rattle.lattice.specs.Check.{Verdict, accepted, refused, and_then, verdict_of}
 use Rattle.lattice.specs.Lattice.{FullLattice}

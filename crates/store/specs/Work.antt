@@ -10,7 +10,7 @@ use Rattle.numbers.specs.declared.terms.Part.{Part}
 use Rattle.store.specs.Phases.{forward_part, turned_part, operator_part}
 use Rattle.store.specs.Store.{Store}
 use Rattle.store.specs.Spots.{Kind, permittivity, forwards, turneds, entries, scales}
-use Rattle.store.specs.Layout.{forward_cols, turned_cols, operator_cols, next_edges, first_stored, forward_off, turned_off, operator_off, starts_off, stored_starts, ends_off}
+use Rattle.store.specs.Layout.{forward_cols, turned_cols, operator_cols, first_stored, ends_off}
 use Rattle.store.specs.declared.Choice.{Choice}
 
 abbrev pub list_of : Store → Kind → List Float

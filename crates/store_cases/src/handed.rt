@@ -1,6 +1,7 @@
 // Rows handed back from a store of any content: each double and each word says its place.
 use crate::inputs::{BUILT, HANDED, PLACES};
 use crate::{inputs, show};
+use std::io;
 use store::handed;
 use store::handed::Cells;
 
@@ -8,7 +9,7 @@ use store::handed::Cells;
 fn built(words: &[usize]) -> Cells {
     let mut cells = [0usize; 36];
     for q in 0..36 {
-        cells[q] = inputs::at(words, std::num::wrapping_add_usize(BUILT + 1, q));
+        cells[q] = inputs::at(words, (BUILT + 1).wrapping_add(q));
     }
     Cells {
         levels: inputs::at(words, BUILT),
@@ -42,33 +43,37 @@ fn starts(words: &[usize]) -> &[usize] {
 
 // The three rows, printed.
 fn rows<'a>(
+    rt: &impl Print,
     c: Cells,
     starts: &[usize],
     values: &'a [f64],
     tvalues: &'a [f64],
     columns: &[usize],
     words: &[usize],
-) {
+) -> io::Result<()> {
     let level = inputs::at(words, HANDED);
     let row = inputs::at(words, HANDED + 1);
     show::doubles(
-        b"forward",
+        rt,
+        "forward",
         handed::weight_row(c, false, starts, values, starts, tvalues, level, row),
         false,
-    );
+    )?;
     show::doubles(
-        b"turned",
+        rt,
+        "turned",
         handed::weight_row(c, true, starts, values, starts, tvalues, level, row),
         false,
-    );
+    )?;
     show::words(
-        b"operator",
+        rt,
+        "operator",
         handed::operator_row(c, starts, columns, level, row),
         false,
-    );
+    )
 }
 
-pub fn run(words: &[usize]) {
+pub fn run(rt: &impl Print, words: &[usize]) -> io::Result<()> {
     let mut values = [0.0; 64];
     let mut tvalues = [0.0; 64];
     let mut columns = [0usize; 64];
@@ -78,11 +83,12 @@ pub fn run(words: &[usize]) {
     let n = inputs::at(words, HANDED + 2);
     let m = inputs::at(words, HANDED + 3);
     rows(
+        rt,
         built(words),
         starts(words),
         inputs::doubles_front(&values, n),
         inputs::doubles_front(&tvalues, n),
         inputs::front(&columns, m),
         words,
-    );
+    )
 }

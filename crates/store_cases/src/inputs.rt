@@ -61,8 +61,8 @@ fn edges(kind: f64, re: f64, im: f64) -> Edges {
 fn axis(d: &[f64], k: usize) -> Edges {
     edges(
         double_at(d, k),
-        double_at(d, std::num::wrapping_add_usize(k, 1)),
-        double_at(d, std::num::wrapping_add_usize(k, 2)),
+        double_at(d, k.wrapping_add(1)),
+        double_at(d, k.wrapping_add(2)),
     )
 }
 
@@ -127,9 +127,5 @@ fn part(d: &[f64], from: usize, n: usize) -> &[f64] {
 
 // List k.
 pub fn list<'a>(words: &[usize], d: &'a [f64], k: usize) -> &'a [f64] {
-    part(
-        d,
-        list_place(k as u64),
-        at(words, std::num::wrapping_add_usize(COUNTS, k)),
-    )
+    part(d, list_place(k as u64), at(words, COUNTS.wrapping_add(k)))
 }

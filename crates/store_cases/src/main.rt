@@ -18,6 +18,7 @@
 //   handed L R D W      hands back row R of level L, with those starts, from lists of D doubles and W words, each of which says its place
 
 #![tactic(auto)]
+
 mod handed;
 mod inputs;
 mod setups;
@@ -28,26 +29,29 @@ mod text;
 use inputs::{BUILT, CHOICE, COUNTS, GRID, HANDED, PLACES, ROOM, STEPS};
 use numbers::lists;
 use show::print;
+use std::io;
+use std::io::Read;
 
 // Whether a row of columns names one twice: a line of one coarse cell on a Bloch axis would give `0 0`, and no lattice's levels have such a line.
-fn twice(text: &[u8], columns: [usize; 3], n: usize) {
-    print(text);
+fn twice(rt: &impl Print, text: &str, columns: [usize; 3], n: usize) -> io::Result<()> {
+    print(rt, text)?;
     if n <= 3 {
         if lists::repeats(&columns, n) {
-            print(b" twice\n");
+            print(rt, " twice\n")?;
         } else {
-            print(b" once\n");
+            print(rt, " once\n")?;
         }
     }
+    Ok(())
 }
 
-fn repeated() {
-    twice(b"none", [0, 0, 0], 0);
-    twice(b"0", [0, 0, 0], 1);
-    twice(b"0 0", [0, 0, 1], 2);
-    twice(b"1 0", [1, 0, 0], 2);
-    twice(b"2 1 0", [2, 1, 0], 3);
-    twice(b"1 0 1", [1, 0, 1], 3);
+fn repeated(rt: &impl Print) -> io::Result<()> {
+    twice(rt, "none", [0, 0, 0], 0)?;
+    twice(rt, "0", [0, 0, 0], 1)?;
+    twice(rt, "0 0", [0, 0, 1], 2)?;
+    twice(rt, "1 0", [1, 0, 0], 2)?;
+    twice(rt, "2 1 0", [2, 1, 0], 3)?;
+    twice(rt, "1 0 1", [1, 0, 1], 3)
 }
 
 // Where the words of a line are laid.
@@ -75,74 +79,95 @@ fn set_words(line: &[u8], kind: u8, words: &mut [usize]) {
     text::put_if(words, kind == b't', STEPS, n);
 }
 
-fn title(line: &[u8]) {
-    print(line);
-    print(b"\n");
+fn title(rt: &impl Print, line: &[u8]) -> io::Result<()> {
+    rt.write_all(line)?;
+    print(rt, "\n")
 }
 
-fn hand_back(line: &[u8], words: &mut [usize]) {
+fn hand_back(rt: &impl Print, line: &[u8], words: &mut [usize]) -> io::Result<()> {
     set_words(line, b'h', words);
-    handed::run(words);
+    handed::run(rt, words)
 }
 
 // The line `setup`, or `steps`.
-fn set_up(line: &[u8], words: &mut [usize], doubles: &mut [f64]) {
+fn set_up(
+    rt: &impl Print,
+    line: &[u8],
+    words: &mut [usize],
+    doubles: &mut [f64],
+) -> io::Result<()> {
     if text::byte(line, 1) == b't' {
         set_words(line, b't', words);
-        return;
+        return Ok(());
     }
-    setups::run(words, doubles);
+    setups::run(rt, words, doubles)?;
     text::put(words, STEPS, 0);
+    Ok(())
 }
 
-fn run_line(line: &[u8], words: &mut [usize], doubles: &mut [f64]) {
+fn run_line(
+    rt: &impl Print,
+    line: &[u8],
+    words: &mut [usize],
+    doubles: &mut [f64],
+) -> io::Result<()> {
     let kind = text::byte(line, 0);
     if kind == b'#' {
-        title(line);
-        return;
+        return title(rt, line);
     }
     if kind == b'n' {
         text::take_doubles(line, text::first(line), 0, doubles);
-        return;
+        return Ok(());
     }
     if kind == b'l' {
         set_list(line, doubles);
-        return;
+        return Ok(());
     }
     if kind == b's' {
-        set_up(line, words, doubles);
-        return;
+        return set_up(rt, line, words, doubles);
     }
     if kind == b'h' {
-        hand_back(line, words);
-        return;
+        return hand_back(rt, line, words);
     }
     set_words(line, kind, words);
+    Ok(())
 }
 
 // The next line; whether there was one.
-fn next_line(words: &mut [usize], doubles: &mut [f64]) -> bool {
+fn next_line(
+    rt: &impl Print,
+    input: &mut impl Read,
+    words: &mut [usize],
+    doubles: &mut [f64],
+) -> io::Result<bool> {
     let mut text = [0u8; 16384];
-    let read = text::read_line(&mut text);
+    let read = text::read_line(input, &mut text)?;
     if read.ended {
-        return false;
+        return Ok(false);
     }
-    run_line(text::front(&text, read.bytes), words, doubles);
-    true
+    run_line(rt, text::front(&text, read.bytes), words, doubles)?;
+    Ok(true)
 }
 
 // A line in each turn, to the end of the input.
-fn run(words: &mut [usize], doubles: &mut [f64]) {
+fn run(
+    rt: &impl Print,
+    input: &mut impl Read,
+    words: &mut [usize],
+    doubles: &mut [f64],
+) -> io::Result<()> {
     for _ in 0..1000000usize {
-        if !next_line(words, doubles) {
-            return;
+        if !next_line(rt, input, words, doubles)? {
+            return Ok(());
         }
     }
+    Ok(())
 }
 
-fn main() {
+fn main(rt: HostRuntime) -> io::Result<()> {
     let mut words = [0usize; 1600];
     let mut doubles = [0.0; 25600];
-    repeated();
-    run(&mut words, &mut doubles);
+    let mut input = rt.stdin();
+    repeated(&rt)?;
+    run(&rt, &mut input, &mut words, &mut doubles)
 }

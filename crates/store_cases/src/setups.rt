@@ -1,6 +1,7 @@
 // A setup: what it needs, what it answers, what it leaves in the twelve lists, and its rows handed back; then the steps behind it.
 use crate::show::print;
 use crate::{inputs, show, steps};
+use std::io;
 use store::handed::Cells;
 use store::needed::Needed;
 use store::setup::Answer;
@@ -8,6 +9,7 @@ use store::{handed, needed, setup};
 
 // The rows of a level handed back, and behind them rows that do not exist: a digest of each of the three kinds.
 fn level_rows<'a>(
+    rt: &impl Print,
     c: Cells,
     level: usize,
     starts: &[usize],
@@ -16,7 +18,7 @@ fn level_rows<'a>(
     tvalues: &'a [f64],
     ostarts: &[usize],
     ocolumns: &[usize],
-) {
+) -> io::Result<()> {
     let mut forward = 0;
     let mut turned = 0;
     let mut operator = 0;
@@ -34,16 +36,17 @@ fn level_rows<'a>(
             handed::operator_row(c, ostarts, ocolumns, level, row),
         );
     }
-    print(b"rows ");
-    show::decimal(level);
-    show::hex(forward);
-    show::hex(turned);
-    show::hex(operator);
-    print(b"\n");
+    print(rt, "rows ")?;
+    show::decimal(rt, level)?;
+    show::hex(rt, forward)?;
+    show::hex(rt, turned)?;
+    show::hex(rt, operator)?;
+    print(rt, "\n")
 }
 
 // Those of every level, and of one that does not exist.
 fn rows<'a>(
+    rt: &impl Print,
     c: Cells,
     starts: &[usize],
     values: &'a [f64],
@@ -51,18 +54,19 @@ fn rows<'a>(
     tvalues: &'a [f64],
     ostarts: &[usize],
     ocolumns: &[usize],
-) {
+) -> io::Result<()> {
     for level in 0..13 {
         if level <= c.levels {
             level_rows(
-                c, level, starts, values, tstarts, tvalues, ostarts, ocolumns,
-            );
+                rt, c, level, starts, values, tstarts, tvalues, ostarts, ocolumns,
+            )?;
         }
     }
+    Ok(())
 }
 
 // What the setup needs, printed.
-fn needs(words: &[usize], d: &[f64]) -> Needed {
+fn needs(rt: &impl Print, words: &[usize], d: &[f64]) -> io::Result<Needed> {
     let n = needed::setup_needs(
         inputs::lattice(words, d),
         inputs::list(words, d, 0),
@@ -74,8 +78,8 @@ fn needs(words: &[usize], d: &[f64]) -> Needed {
         inputs::choice(words),
         inputs::coarsest(words),
     );
-    show::needed(n);
-    n
+    show::needed(rt, n)?;
+    Ok(n)
 }
 
 fn accepted(a: Answer) -> bool {
@@ -87,7 +91,7 @@ fn accepted(a: Answer) -> bool {
 
 // The front of a list that is lent as list k; none of it where it is too short.
 fn words_lent<'a>(list: &'a mut [usize], words: &[usize], k: usize) -> &'a mut [usize] {
-    let n = inputs::at(words, std::num::wrapping_add_usize(inputs::ROOM, k));
+    let n = inputs::at(words, inputs::ROOM.wrapping_add(k));
     if n <= list.len() {
         return &mut list[0..n];
     }
@@ -95,7 +99,7 @@ fn words_lent<'a>(list: &'a mut [usize], words: &[usize], k: usize) -> &'a mut [
 }
 
 fn doubles_lent<'a>(list: &'a mut [f64], words: &[usize], k: usize) -> &'a mut [f64] {
-    let n = inputs::at(words, std::num::wrapping_add_usize(inputs::ROOM, k));
+    let n = inputs::at(words, inputs::ROOM.wrapping_add(k));
     if n <= list.len() {
         return &mut list[0..n];
     }
@@ -103,16 +107,23 @@ fn doubles_lent<'a>(list: &'a mut [f64], words: &[usize], k: usize) -> &'a mut [
 }
 
 // The three lists of rows, printed.
-fn three(name: &[u8], starts: &[usize], columns: &[usize], values: &[f64], brief: bool) {
-    print(name);
-    show::words(b" starts", starts, brief);
-    print(name);
-    show::words(b" columns", columns, brief);
-    print(name);
-    show::doubles(b" values", values, brief);
+fn three(
+    rt: &impl Print,
+    name: &str,
+    starts: &[usize],
+    columns: &[usize],
+    values: &[f64],
+    brief: bool,
+) -> io::Result<()> {
+    print(rt, name)?;
+    show::words(rt, " starts", starts, brief)?;
+    print(rt, name)?;
+    show::words(rt, " columns", columns, brief)?;
+    print(rt, name)?;
+    show::doubles(rt, " values", values, brief)
 }
 
-pub fn run(words: &mut [usize], d: &mut [f64]) {
+pub fn run(rt: &impl Print, words: &mut [usize], d: &mut [f64]) -> io::Result<()> {
     let w = show::MARK as usize;
     let x = show::mark();
     let mut ends_all = [w; 256];
@@ -139,7 +150,7 @@ pub fn run(words: &mut [usize], d: &mut [f64]) {
     let ocolumns = words_lent(&mut ocolumns_all, words, 9);
     let ovalues = doubles_lent(&mut ovalues_all, words, 10);
     let scaling = doubles_lent(&mut scaling_all, words, 11);
-    let needed = needs(words, d);
+    let needed = needs(rt, words, d)?;
     let answer = setup::setup(
         inputs::lattice(words, d),
         inputs::list(words, d, 0),
@@ -165,19 +176,20 @@ pub fn run(words: &mut [usize], d: &mut [f64]) {
         scaling,
     );
     let brief = inputs::brief(words);
-    show::answer(answer);
-    show::words(b"ends", ends, false);
-    show::doubles(b"permittivities", eps, brief);
-    three(b"forward", starts, columns, values, brief);
-    three(b"turned", tstarts, tcolumns, tvalues, brief);
-    three(b"operator", ostarts, ocolumns, ovalues, brief);
-    show::doubles(b"scaling", scaling, brief);
+    show::answer(rt, answer)?;
+    show::words(rt, "ends", ends, false)?;
+    show::doubles(rt, "permittivities", eps, brief)?;
+    three(rt, "forward", starts, columns, values, brief)?;
+    three(rt, "turned", tstarts, tcolumns, tvalues, brief)?;
+    three(rt, "operator", ostarts, ocolumns, ovalues, brief)?;
+    show::doubles(rt, "scaling", scaling, brief)?;
     if accepted(answer) {
         let c = needed.cells;
-        rows(c, starts, values, tstarts, tvalues, ostarts, ocolumns);
+        rows(rt, c, starts, values, tstarts, tvalues, ostarts, ocolumns)?;
         steps::run(
-            words, d, ends, eps, starts, columns, values, tstarts, tcolumns, tvalues, ostarts,
+            rt, words, d, ends, eps, starts, columns, values, tstarts, tcolumns, tvalues, ostarts,
             ocolumns, ovalues, scaling,
-        );
+        )?;
     }
+    Ok(())
 }

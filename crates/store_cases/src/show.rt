@@ -1,5 +1,6 @@
 // Printing: whole numbers in decimal, doubles by their bits, both in runs, and a mark as `-`.
 use lattice::check::Checked;
+use std::io;
 use store::change::Changed;
 use store::handed::Cells;
 use store::needed::Needed;
@@ -12,12 +13,12 @@ pub fn mark() -> f64 {
     f64::from_bits(MARK)
 }
 
-pub fn print(text: &[u8]) {
-    io::write_all(1, text);
+pub fn print(rt: &impl Print, text: &str) -> io::Result<()> {
+    rt.print(text)
 }
 
-pub fn decimal(n: usize) {
-    io::print_decimal(1, n as u64);
+pub fn decimal(rt: &impl Print, n: usize) -> io::Result<()> {
+    rt.print(n)
 }
 
 // The bits of a double, and one pattern for those that are not finite.
@@ -30,53 +31,49 @@ pub fn bits(x: f64) -> u64 {
 
 // ---- answers
 
-fn refused(no: usize, place: usize) {
-    print(b"refused ");
-    decimal(no);
-    print(b" ");
-    decimal(place);
+fn refused(rt: &impl Print, no: usize, place: usize) -> io::Result<()> {
+    print!(rt; "refused {no} {place}")
 }
 
-fn levels(n: usize) {
-    print(b"levels ");
-    decimal(n);
+fn levels(rt: &impl Print, n: usize) -> io::Result<()> {
+    print!(rt; "levels {n}")
 }
 
-fn checked(c: Checked) {
+fn checked(rt: &impl Print, c: Checked) -> io::Result<()> {
     match c {
-        Checked::Sound => print(b"sound"),
-        Checked::Cells(place) => refused(1, place),
-        Checked::Scalar(place) => refused(2, place),
-        Checked::Length(place) => refused(3, place),
-        Checked::Entry(place) => refused(4, place),
+        Checked::Sound => print(rt, "sound"),
+        Checked::Cells(place) => refused(rt, 1, place),
+        Checked::Scalar(place) => refused(rt, 2, place),
+        Checked::Length(place) => refused(rt, 3, place),
+        Checked::Entry(place) => refused(rt, 4, place),
     }
 }
 
-fn answered(a: Answer) {
+fn answered(rt: &impl Print, a: Answer) -> io::Result<()> {
     match a {
-        Answer::Levels(n) => levels(n),
-        Answer::Refused(c) => checked(c),
-        Answer::TooMany => refused(5, 12),
-        Answer::Twice(level) => refused(8, level),
-        Answer::Short(list) => refused(6, list),
-        Answer::NotFinite(level) => refused(7, level),
+        Answer::Levels(n) => levels(rt, n),
+        Answer::Refused(c) => checked(rt, c),
+        Answer::TooMany => refused(rt, 5, 12),
+        Answer::Twice(level) => refused(rt, 8, level),
+        Answer::Short(list) => refused(rt, 6, list),
+        Answer::NotFinite(level) => refused(rt, 7, level),
     }
 }
 
-pub fn answer(a: Answer) {
-    answered(a);
-    print(b"\n");
+pub fn answer(rt: &impl Print, a: Answer) -> io::Result<()> {
+    answered(rt, a)?;
+    print(rt, "\n")
 }
 
-pub fn changed(a: Changed) {
-    print(b"change ");
+pub fn changed(rt: &impl Print, a: Changed) -> io::Result<()> {
+    print(rt, "change ")?;
     match a {
-        Changed::Answered(b) => answered(b),
-        Changed::NoEdge(edge) => refused(9, edge),
-        Changed::BadValue(edge) => refused(10, edge),
-        Changed::Differs(level) => refused(11, level),
+        Changed::Answered(b) => answered(rt, b)?,
+        Changed::NoEdge(edge) => refused(rt, 9, edge)?,
+        Changed::BadValue(edge) => refused(rt, 10, edge)?,
+        Changed::Differs(level) => refused(rt, 11, level)?,
     }
-    print(b"\n");
+    print(rt, "\n")
 }
 
 // ---- lists
@@ -87,62 +84,59 @@ struct Run {
     count: usize,
 }
 
-fn value(v: u64, hex: bool) {
+fn value(rt: &impl Print, v: u64, hex: bool) -> io::Result<()> {
     if v == MARK {
-        print(b"-");
-        return;
+        return print(rt, "-");
     }
     if hex {
-        io::print_hex(1, v, 1);
-        return;
+        return print!(rt; "{v:x}");
     }
-    io::print_decimal(1, v);
+    rt.print(v)
 }
 
-fn end_run(r: Run, hex: bool) {
+fn end_run(rt: &impl Print, r: Run, hex: bool) -> io::Result<()> {
     if r.count == 0 {
-        return;
+        return Ok(());
     }
-    print(b" ");
+    print(rt, " ")?;
     if r.count != 1 {
-        decimal(r.count);
-        print(b"*");
+        print!(rt; "{}*", r.count)?;
     }
-    value(r.value, hex);
+    value(rt, r.value, hex)
 }
 
 // A run with one more value; one that ends before it is printed.
-fn longer(r: Run, v: u64, hex: bool) -> Run {
+fn longer(rt: &impl Print, r: Run, v: u64, hex: bool) -> io::Result<Run> {
     if r.value == v {
-        return Run {
+        return Ok(Run {
             value: v,
-            count: std::num::wrapping_add_usize(r.count, 1),
-        };
+            count: r.count.wrapping_add(1),
+        });
     }
-    end_run(r, hex);
-    Run { value: v, count: 1 }
+    end_run(rt, r, hex)?;
+    Ok(Run { value: v, count: 1 })
 }
 
-fn runs(list: &[usize]) {
+fn runs(rt: &impl Print, list: &[usize]) -> io::Result<()> {
     let mut r = Run { value: 0, count: 0 };
     for k in 0..list.len() {
-        r = longer(r, list[k] as u64, false);
+        r = longer(rt, r, list[k] as u64, false)?;
     }
-    end_run(r, false);
+    end_run(rt, r, false)
 }
 
-fn double_runs(list: &[f64]) {
+fn double_runs(rt: &impl Print, list: &[f64]) -> io::Result<()> {
     let mut r = Run { value: 0, count: 0 };
     for k in 0..list.len() {
-        r = longer(r, bits(list[k]), true);
+        r = longer(rt, r, bits(list[k]), true)?;
     }
-    end_run(r, true);
+    end_run(rt, r, true)
 }
 
 // ---- digests
 
 pub fn mixed(d: u64, x: u64) -> u64 {
-    std::num::wrapping_add_u64((d << 7) | (d >> 57), x)
+    ((d << 7) | (d >> 57)).wrapping_add(x)
 }
 
 pub fn digest(first: u64, list: &[usize]) -> u64 {
@@ -161,41 +155,40 @@ pub fn double_digest(first: u64, list: &[f64]) -> u64 {
     d
 }
 
-pub fn hex(n: u64) {
-    print(b" ");
-    io::print_hex(1, n, 1);
+pub fn hex(rt: &impl Print, n: u64) -> io::Result<()> {
+    print!(rt; " {n:x}")
 }
 
 // A list, whole or, if `brief`, by its digest.
-pub fn words(name: &[u8], list: &[usize], brief: bool) {
-    print(name);
+pub fn words(rt: &impl Print, name: &str, list: &[usize], brief: bool) -> io::Result<()> {
+    print(rt, name)?;
     if brief {
-        hex(digest(0, list));
+        hex(rt, digest(0, list))?;
     } else {
-        runs(list);
+        runs(rt, list)?;
     }
-    print(b"\n");
+    print(rt, "\n")
 }
 
-pub fn doubles(name: &[u8], list: &[f64], brief: bool) {
-    print(name);
+pub fn doubles(rt: &impl Print, name: &str, list: &[f64], brief: bool) -> io::Result<()> {
+    print(rt, name)?;
     if brief {
-        hex(double_digest(0, list));
+        hex(rt, double_digest(0, list))?;
     } else {
-        double_runs(list);
+        double_runs(rt, list)?;
     }
-    print(b"\n");
+    print(rt, "\n")
 }
 
 // ---- needs
 
 // What a setup needs: its answer, the places of the lists, the levels and their cells.
-pub fn needed(n: Needed) {
+pub fn needed(rt: &impl Print, n: Needed) -> io::Result<()> {
     let a = n.answer;
     let needs = n.needs;
     let c = n.cells;
-    print(b"needs ");
-    answer(a);
+    print(rt, "needs ")?;
+    answer(rt, a)?;
     let list = [
         needs.ends,
         needs.eps,
@@ -206,13 +199,13 @@ pub fn needed(n: Needed) {
         needs.oterms,
         needs.scaling,
     ];
-    words(b"places", &list, false);
-    cells(c);
+    words(rt, "places", &list, false)?;
+    cells(rt, c)
 }
 
-fn cells(c: Cells) {
-    print(b"cells ");
-    decimal(c.levels);
+fn cells(rt: &impl Print, c: Cells) -> io::Result<()> {
+    print(rt, "cells ")?;
+    decimal(rt, c.levels)?;
     let list = c.cells;
-    words(b" levels", &list, false);
+    words(rt, " levels", &list, false)
 }

@@ -7,6 +7,7 @@ use crate::show::print;
 use crate::{inputs, show, text};
 use changes::change;
 use numbers::C64;
+use std::io;
 
 // The first n places of a list that is lent, or all of it.
 fn lent(list: &mut [f64], n: usize) -> &mut [f64] {
@@ -18,7 +19,7 @@ fn lent(list: &mut [f64], n: usize) -> &mut [f64] {
 
 // How many places of list k are lent.
 fn room(words: &[usize], k: usize) -> usize {
-    inputs::at(words, std::num::wrapping_add_usize(LENT, k))
+    inputs::at(words, LENT.wrapping_add(k))
 }
 
 // ---- what a holder may do
@@ -69,6 +70,7 @@ fn alter_doubles(
 
 // The change of an edge to a value in the fronts of the lists, and its answer printed.
 fn call(
+    rt: &impl Print,
     words: &[usize],
     d: &[f64],
     edge: usize,
@@ -85,7 +87,7 @@ fn call(
     ocolumns: &[usize],
     ovalues: &mut [f64],
     scaling: &mut [f64],
-) {
+) -> io::Result<()> {
     let a = change::change(
         inputs::lattice(words, d),
         inputs::list(words, d, 0),
@@ -111,11 +113,12 @@ fn call(
         lent(ovalues, room(words, 10)),
         lent(scaling, room(words, 11)),
     );
-    show::changed(a);
+    show::changed(rt, a)
 }
 
 // The lists of words as one digest.
 fn words_left(
+    rt: &impl Print,
     ends: &[usize],
     starts: &[usize],
     columns: &[usize],
@@ -123,7 +126,7 @@ fn words_left(
     tcolumns: &[usize],
     ostarts: &[usize],
     ocolumns: &[usize],
-) {
+) -> io::Result<()> {
     let mut d = show::digest(0, ends);
     d = show::digest(d, starts);
     d = show::digest(d, columns);
@@ -131,25 +134,26 @@ fn words_left(
     d = show::digest(d, tcolumns);
     d = show::digest(d, ostarts);
     d = show::digest(d, ocolumns);
-    print(b"words");
-    show::hex(d);
-    print(b"\n");
+    print(rt, "words")?;
+    show::hex(rt, d)?;
+    print(rt, "\n")
 }
 
 // The lists of numbers, whole or by digests.
 fn numbers_left(
+    rt: &impl Print,
     eps: &[f64],
     values: &[f64],
     tvalues: &[f64],
     ovalues: &[f64],
     scaling: &[f64],
     brief: bool,
-) {
-    show::doubles(b"permittivities", eps, brief);
-    show::doubles(b"forward", values, brief);
-    show::doubles(b"turned", tvalues, brief);
-    show::doubles(b"operator", ovalues, brief);
-    show::doubles(b"scaling", scaling, brief);
+) -> io::Result<()> {
+    show::doubles(rt, "permittivities", eps, brief)?;
+    show::doubles(rt, "forward", values, brief)?;
+    show::doubles(rt, "turned", tvalues, brief)?;
+    show::doubles(rt, "operator", ovalues, brief)?;
+    show::doubles(rt, "scaling", scaling, brief)
 }
 
 // ---- the steps
@@ -157,8 +161,8 @@ fn numbers_left(
 // What the calls behind are handed: 3 a length lent, 4 the count of doubles of an input list, 5 a word of the lines `grid` and `choice`, 6 a double of the line
 // `numbers` and of the lists behind it.
 fn set_input(words: &mut [usize], d: &mut [f64], kind: usize, at: usize, v: usize) {
-    let room = std::num::wrapping_add_usize(LENT, at);
-    let count = std::num::wrapping_add_usize(COUNTS, at);
+    let room = LENT.wrapping_add(at);
+    let count = COUNTS.wrapping_add(at);
     text::put_if(words, kind == 3, room, v);
     text::put_if(words, kind == 4, count, v);
     text::put_if(words, kind == 5, at, v);
@@ -167,6 +171,7 @@ fn set_input(words: &mut [usize], d: &mut [f64], kind: usize, at: usize, v: usiz
 
 // The step whose four words stand from place k on: 1 a change, of an edge to a pair of doubles; 2 and 7 a word and a double of a list set by its holder.
 fn step(
+    rt: &impl Print,
     words: &mut [usize],
     d: &mut [f64],
     k: usize,
@@ -182,11 +187,11 @@ fn step(
     ocolumns: &mut [usize],
     ovalues: &mut [f64],
     scaling: &mut [f64],
-) {
+) -> io::Result<()> {
     let kind = inputs::at(words, k);
-    let a = inputs::at(words, std::num::wrapping_add_usize(k, 1));
-    let b = inputs::at(words, std::num::wrapping_add_usize(k, 2));
-    let c = inputs::at(words, std::num::wrapping_add_usize(k, 3));
+    let a = inputs::at(words, k.wrapping_add(1));
+    let b = inputs::at(words, k.wrapping_add(2));
+    let c = inputs::at(words, k.wrapping_add(3));
     set_input(words, d, kind, a, b);
     alter_words(
         kind == 2,
@@ -204,25 +209,35 @@ fn step(
     let x = text::double(c as u64);
     alter_doubles(kind == 7, a, b, x, eps, values, tvalues, ovalues, scaling);
     if kind != 1 {
-        return;
+        return Ok(());
     }
     let value = C64 {
         re: text::double(b as u64),
         im: x,
     };
     call(
-        words, d, a, value, ends, eps, starts, columns, values, tstarts, tcolumns, tvalues,
+        rt, words, d, a, value, ends, eps, starts, columns, values, tstarts, tcolumns, tvalues,
         ostarts, ocolumns, ovalues, scaling,
-    );
-    words_left(ends, starts, columns, tstarts, tcolumns, ostarts, ocolumns);
-    numbers_left(eps, values, tvalues, ovalues, scaling, inputs::brief(words));
+    )?;
+    words_left(
+        rt, ends, starts, columns, tstarts, tcolumns, ostarts, ocolumns,
+    )?;
+    numbers_left(
+        rt,
+        eps,
+        values,
+        tvalues,
+        ovalues,
+        scaling,
+        inputs::brief(words),
+    )
 }
 
 // Each list is lent as it was for the setup.
 fn lend(words: &mut [usize]) {
     for k in 0..12 {
-        let n = inputs::at(words, std::num::wrapping_add_usize(inputs::ROOM, k));
-        text::put(words, std::num::wrapping_add_usize(LENT, k), n);
+        let n = inputs::at(words, inputs::ROOM.wrapping_add(k));
+        text::put(words, LENT.wrapping_add(k), n);
     }
 }
 
@@ -239,6 +254,7 @@ fn count(words: &[usize]) -> usize
 
 // All steps.
 pub fn run(
+    rt: &impl Print,
     words: &mut [usize],
     d: &mut [f64],
     ends: &mut [usize],
@@ -253,11 +269,12 @@ pub fn run(
     ocolumns: &mut [usize],
     ovalues: &mut [f64],
     scaling: &mut [f64],
-) {
+) -> io::Result<()> {
     lend(words);
     let n = count(words);
     for q in 0..n {
         step(
+            rt,
             words,
             d,
             STEPS + 1 + 4 * q,
@@ -273,6 +290,7 @@ pub fn run(
             ocolumns,
             ovalues,
             scaling,
-        );
+        )?;
     }
+    Ok(())
 }

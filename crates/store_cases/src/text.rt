@@ -1,4 +1,5 @@
 // The words of a line of the test file.
+use std::io;
 
 // A word, how many times it stands there from here on, and the place behind it; or that there is none.
 #[derive(Clone, Copy)]
@@ -20,9 +21,9 @@ fn whole(n: u64) -> usize {
 // What a hexadecimal digit stands for.
 fn digit(b: u8) -> u64 {
     if b <= b'9' {
-        return wide(std::num::wrapping_sub_u8(b, b'0'));
+        return wide(b.wrapping_sub(b'0'));
     }
-    wide(std::num::wrapping_sub_u8(b, b'a' - 10))
+    wide(b.wrapping_sub(b'a' - 10))
 }
 
 // The word that begins at a place: hexadecimal, behind a count and a `*` where it stands there several times.
@@ -83,7 +84,7 @@ pub fn next(line: &[u8], w: Word) -> Word {
             behind: w.behind,
         };
     }
-    word_at(line, std::num::wrapping_add_usize(w.behind, 1))
+    word_at(line, w.behind.wrapping_add(1))
 }
 
 // The byte at a place, 0 past the end.
@@ -101,30 +102,30 @@ pub struct Read {
     pub ended: bool,
 }
 
-// The next line of standard input, without its newline.
-pub fn read_line(line: &mut [u8]) -> Read {
+// The next line of the input, without its newline.
+pub fn read_line(input: &mut impl io::Read, line: &mut [u8]) -> io::Result<Read> {
     let n = line.len();
     for k in 0..n {
         let mut one = [0u8; 1];
-        if io::read_full(0, &mut one) == 0 {
-            return Read {
+        if input.read(&mut one)? == 0 {
+            return Ok(Read {
                 bytes: k,
                 ended: true,
-            };
+            });
         }
         let b = byte(&one, 0);
         if b == b'\n' {
-            return Read {
+            return Ok(Read {
                 bytes: k,
                 ended: false,
-            };
+            });
         }
         line[k] = b;
     }
-    Read {
+    Ok(Read {
         bytes: n,
         ended: true,
-    }
+    })
 }
 
 // The first n bytes.
@@ -182,7 +183,7 @@ pub fn take(line: &[u8], before: Word, from: usize, list: &mut [usize]) -> usize
         if !w.found {
             return k;
         }
-        put(list, std::num::wrapping_add_usize(from, k), whole(w.value));
+        put(list, from.wrapping_add(k), whole(w.value));
     }
     n
 }
@@ -196,6 +197,6 @@ pub fn take_doubles(line: &[u8], before: Word, from: usize, list: &mut [f64]) {
         if !w.found {
             return;
         }
-        put_double(list, std::num::wrapping_add_usize(from, k), double(w.value));
+        put_double(list, from.wrapping_add(k), double(w.value));
     }
 }

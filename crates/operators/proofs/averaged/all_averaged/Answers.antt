@@ -1,4 +1,3 @@
-use Prim.Native.Nat.{◌-◌}
 use native.Mathlib.Omega.{arith}
 use Rattle.lattice.proofs.GridLaws.{unknowns_most}
 use Rattle.weights.proofs.EpsLaws.{chaining_start, chaining_end}

@@ -1,6 +1,5 @@
 -- `operators::averaged::all_averaged` meets its contract. The invariant (`Chaining`): laying the rest gives the whole, and what is read is as it was.
 -- Assumes nothing.
-use Prim.Native.Nat.{◌-◌}
 use Rattle.numbers.specs.Lists.{read_from}
 use Rattle.weights.proofs.EpsLaws.{Chaining}
 use Rattle.operators.specs.Averaged.{averaged_no}

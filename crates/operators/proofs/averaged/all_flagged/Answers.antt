@@ -1,5 +1,4 @@
 use native.Mathlib.Omega.{arith}
-use Prim.Native.Nat.{◌-◌}
 use mathlib.Core.Path.{refl, sym, ◌∙◌}
 use Rattle.operators.specs.Averaged.{hat_at}
 use Rattle.numbers.proofs.ElementLaws.{looking_start, looking_turn}

@@ -1,4 +1,3 @@
-use Prim.Native.Nat.{◌-◌}
 use native.Mathlib.Omega.{arith}
 use Rattle.operators.proofs.HatLaws.{nodes_from, axis_start, axis_turn, axis_end}
 use Rattle.operators.proofs.averaged.axis_hats.Goals as goal

@@ -1,6 +1,6 @@
 -- `operators::averaged::axis_hats` meets its contract. The invariant (`AxisHats`): the first m nodes have their hats, and the other axes' are as they were.
 -- Assumes nothing.
-use Prim.Native.Nat.{◌-◌, ◌≤◌}
+use Prim.Native.Nat.{◌≤◌}
 use Rattle.lattice.specs.Line.{ends_of}
 use Rattle.operators.specs.Averaged.{AxisHats}
 use Rattle.operators.proofs.averaged.axis_hats.Given as goal

@@ -1,5 +1,4 @@
 use native.Mathlib.Omega.{arith}
-use Prim.Native.Nat.{◌-◌}
 use mathlib.Core.Path.{sym, ◌∙◌}
 use Rattle.weights.proofs.EpsLaws.{along_inside, along_low}
 use Rattle.operators.proofs.AverageLaws.{line_inside}

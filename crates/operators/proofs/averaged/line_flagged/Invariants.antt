@@ -1,6 +1,5 @@
 -- `operators::averaged::line_flagged` meets its contract. The invariant (`Looking`): no edge before place m is flagged.
 -- Assumes nothing.
-use Prim.Native.Nat.{◌-◌}
 use Rattle.weights.specs.CoarseEps.{edge_along}
 use Rattle.numbers.proofs.ElementLaws.{Looking, single}
 use Rattle.operators.proofs.averaged.line_flagged.Given as goal

@@ -50,10 +50,10 @@ push_upper-requires-clause-held c = c.requires.line_pair.fine_held
 
 pub push_upper-requires-clause-last_le_cells : goal.push_upper-requires-clause-last_le_cells
 push_upper-requires-clause-last_le_cells c = (
-      number_most c.requires.line_pair c.requires.nodes_from (c.args.m + 1) (omega arith) (omega arith),
-      (width_most c.requires.line_pair c.args.m (c.args.m + 1) (omega arith) (omega arith)).1,
-      omega (arith, lower_next c.requires.line_pair c.args.wall c.args.m c.requires.m_lt_cells.0 c.push_lower-k.ensures, c.push_hat-k1.ensures.next),
-    )
+  number_most c.requires.line_pair c.requires.nodes_from (c.args.m + 1) (omega arith) (omega arith),
+  (width_most c.requires.line_pair c.args.m (c.args.m + 1) (omega arith) (omega arith)).1,
+  omega (arith, lower_next c.requires.line_pair c.args.wall c.args.m c.requires.m_lt_cells.0 c.push_lower-k.ensures, c.push_hat-k1.ensures.next),
+)
 
 pub push_upper-requires-clause-by_index : goal.push_upper-requires-clause-by_index
 push_upper-requires-clause-by_index c = λ q a b. upper_place c.requires.line_pair c.requires.nodes_from c.args.m q c.requires.m_lt_cells.0 a b

@@ -1,4 +1,3 @@
-use Prim.Native.Nat.{◌-◌}
 use native.Mathlib.Omega.{arith}
 use Rattle.operators.proofs.HatLaws.{climbing_start, climbing_turn, climbing_end}
 use Rattle.operators.proofs.averaged.push_upper.Goals as goal

@@ -1,6 +1,5 @@
 -- `operators::averaged::push_upper` meets its contract. The invariant (`Climbing`): the nodes from q on, laid from here, come to the whole.
 -- Assumes nothing.
-use Prim.Native.Nat.{◌-◌}
 use Rattle.operators.proofs.HatLaws.{Climbing}
 use Rattle.operators.proofs.averaged.push_upper.Given as goal
 

@@ -1,4 +1,3 @@
-use Prim.Native.Nat.{◌-◌}
 use native.Mathlib.Omega.{arith}
 use Rattle.operators.proofs.HatLaws.{walking_start, walking_turn, walking_end, wrapped_before}
 use Rattle.operators.proofs.averaged.walk_lower.Goals as goal

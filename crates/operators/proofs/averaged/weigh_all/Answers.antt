@@ -1,4 +1,3 @@
-use Prim.Native.Nat.{◌-◌}
 use Rattle.operators.specs.Averaged.{hat_at}
 use Rattle.operators.proofs.AverageLaws.{adding_start, adding_turn, adding_end, all_fold, nothing_is}
 use Rattle.operators.proofs.averaged.weigh_all.Goals as goal

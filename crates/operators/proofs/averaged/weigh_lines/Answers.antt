@@ -1,4 +1,3 @@
-use Prim.Native.Nat.{◌-◌}
 use mathlib.Core.Path.{refl}
 use Rattle.operators.specs.Averaged.{hat_at}
 use Rattle.operators.proofs.AverageLaws.{adding_start, adding_turn, adding_end, lines_fold}

@@ -1,6 +1,6 @@
 -- `operators::base::fill_base` meets its contract. The invariant: the first q relations are level 0's.
 -- Assumes nothing.
-use Prim.Native.Nat.{◌-◌, ◌≤◌}
+use Prim.Native.Nat.{◌≤◌}
 use mathlib.Core.Path.{◌≡◌}
 use lib.ListN.{length}
 use Rattle.operators.specs.Base.{base_words}

@@ -1,6 +1,6 @@
 -- `operators::base::fill_relation` meets its contract. The invariant: the first i words are filled.
 -- Assumes nothing.
-use Prim.Native.Nat.{◌-◌, ◌≤◌}
+use Prim.Native.Nat.{◌≤◌}
 use Rattle.operators.specs.Base.{base_word}
 use Rattle.operators.proofs.TableLaws.{Filling}
 use Rattle.operators.proofs.base.fill_relation.Given as goal

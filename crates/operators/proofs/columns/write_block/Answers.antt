@@ -1,4 +1,4 @@
-use Prim.Native.Nat.{◌+◌, ◌-◌, ◌*◌}
+use Prim.Native.Nat.{◌+◌, ◌*◌}
 use native.Mathlib.Omega.{arith}
 use Rattle.operators.proofs.ColumnLaws.{block_start, block_turn, block_end, plane_length, area, volume}
 use Rattle.operators.proofs.columns.write_block.Goals as goal
@@ -29,8 +29,7 @@ loop-k-smaller c = omega (arith, c.next_place-k-in-loop-k.ensures.from)
 
 pub loop-k-preserved : goal.loop-k-preserved
 loop-k-preserved c =
-    let o = c.next_place-k-in-loop-k.ensures in
-    (
+    let o = c.next_place-k-in-loop-k.ensures in (
       o.last,
       omega (
         arith,

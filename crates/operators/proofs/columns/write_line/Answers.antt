@@ -1,5 +1,3 @@
-use Prim.Native.Nat.{◌-◌}
-use mathlib.Core.Bool.{true}
 use native.Mathlib.Omega.{arith}
 use Rattle.operators.proofs.ColumnLaws.{line_start, line_turn, line_end}
 use Rattle.operators.proofs.columns.write_line.Goals as goal
@@ -14,8 +12,7 @@ loop-i-smaller c = omega (arith, c.next_place-i-in-loop-i.ensures.from)
 
 pub loop-i-preserved : goal.loop-i-preserved
 loop-i-preserved c =
-    let o = c.next_place-i-in-loop-i.ensures in
-    (
+    let o = c.next_place-i-in-loop-i.ensures in (
       o.last,
       omega (arith, o.from, c.put-next.ensures.next),
       o.here,

@@ -1,4 +1,4 @@
-use Prim.Native.Nat.{◌+◌, ◌-◌, ◌*◌}
+use Prim.Native.Nat.{◌+◌, ◌*◌}
 use native.Mathlib.Omega.{arith}
 use Rattle.operators.proofs.ColumnLaws.{plane_start, plane_turn, plane_end, line_length, area}
 use Rattle.operators.proofs.columns.write_plane.Goals as goal
@@ -25,8 +25,7 @@ loop-j-smaller c = omega (arith, c.next_place-j-in-loop-j.ensures.from)
 
 pub loop-j-preserved : goal.loop-j-preserved
 loop-j-preserved c =
-    let o = c.next_place-j-in-loop-j.ensures in
-    (
+    let o = c.next_place-j-in-loop-j.ensures in (
       o.last,
       omega (arith, o.from, c.write_line-next.ensures.next, line_length c.mix-w.result (c.args.base + c.args.nx * c.loop-j.j) c.args.nx 0),
       plane_turn _ _ _ _ _ _ _ _ c.loop-j.invariant.2 c.loop-j-test.true c.bit.ensures c.bit-in-loop-j.ensures c.mix-w.ensures

@@ -1,4 +1,3 @@
-use Prim.Native.Nat.{◌-◌}
 use native.Mathlib.Omega.{arith}
 use Rattle.operators.proofs.ComposeLaws.{word_composed}
 use Rattle.operators.proofs.TableLaws.{filling_start, filling_turn, filling_end}

@@ -1,6 +1,6 @@
 -- `operators::compose::compose` meets its contract. The invariant: the first c words are filled.
 -- Assumes nothing.
-use Prim.Native.Nat.{◌-◌, ◌≤◌}
+use Prim.Native.Nat.{◌≤◌}
 use Rattle.operators.specs.Compose.{words_at, composed_word}
 use Rattle.operators.proofs.TableLaws.{Filling}
 use Rattle.operators.proofs.compose.compose.Given as goal

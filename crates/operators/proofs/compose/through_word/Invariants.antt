@@ -1,6 +1,6 @@
 -- `operators::compose::through_word` meets its contract. The invariant: the word has what the first k places bring.
 -- Assumes nothing.
-use Prim.Native.Nat.{◌-◌, ◌≤◌}
+use Prim.Native.Nat.{◌≤◌}
 use mathlib.Core.Path.{◌≡◌}
 use Rattle.operators.specs.Bits.{bit_at, gathered}
 use Rattle.operators.specs.Compose.{words_at}

@@ -1,6 +1,6 @@
 -- `operators::compose::turned_word` meets its contract. The invariant: the word has what the first k places bring.
 -- Assumes nothing.
-use Prim.Native.Nat.{◌-◌, ◌≤◌}
+use Prim.Native.Nat.{◌≤◌}
 use mathlib.Core.Path.{◌≡◌}
 use Rattle.operators.specs.Compose.{words_at, bits_of}
 use Rattle.operators.specs.Bits.{gathered}

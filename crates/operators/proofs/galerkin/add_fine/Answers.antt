@@ -1,4 +1,3 @@
-use Prim.Native.Nat.{◌-◌}
 use Rattle.operators.proofs.GatherLaws.{row_there, count_gathered, adding_start, adding_turn, adding_end}
 use Rattle.operators.specs.Galerkin.{scaled_term, forward_term, forward_terms}
 use Rattle.operators.proofs.galerkin.add_fine.Goals as goal

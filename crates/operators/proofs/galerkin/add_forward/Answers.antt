@@ -1,4 +1,3 @@
-use Prim.Native.Nat.{◌-◌}
 use Rattle.operators.proofs.GatherLaws.{adding_start, adding_turn, adding_end}
 use Rattle.operators.specs.Galerkin.{scaled_term}
 use Rattle.operators.proofs.galerkin.add_forward.Goals as goal

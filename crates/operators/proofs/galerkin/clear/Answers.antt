@@ -1,4 +1,3 @@
-use Prim.Native.Nat.{◌-◌}
 use native.Mathlib.Omega.{arith}
 use Rattle.operators.proofs.GatherLaws.{cleared_start, cleared_turn, cleared_end}
 use Rattle.operators.proofs.galerkin.clear.Goals as goal

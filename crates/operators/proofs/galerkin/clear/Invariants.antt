@@ -1,4 +1,3 @@
-use Prim.Native.Nat.{◌-◌}
 use Prim.Native.Nat.{◌≤◌}
 use Rattle.operators.specs.Galerkin.{Cleared}
 use Rattle.operators.proofs.galerkin.clear.Given as goal

@@ -1,4 +1,3 @@
-use Prim.Native.Nat.{◌-◌}
 use native.Mathlib.Omega.{arith}
 use Rattle.operators.proofs.GalerkinLaws.{rows_start, fine_ready, row_ready, row_turn, finite_room, rows_finite}
 use Rattle.operators.proofs.galerkin.galerkin.Goals as goal

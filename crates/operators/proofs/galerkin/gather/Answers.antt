@@ -1,4 +1,3 @@
-use Prim.Native.Nat.{◌-◌}
 use native.Mathlib.Omega.{arith}
 use mathlib.Core.Path.{refl}
 use Rattle.operators.proofs.GatherLaws.{adding_start, adding_turn, adding_end, bounds, row_gathered, stored_column}

@@ -1,4 +1,3 @@
-use Prim.Native.Nat.{◌-◌}
 use native.Mathlib.Omega.{arith}
 use Rattle.operators.proofs.GatherLaws.{summing_start, summing_turn, summing_end}
 use Rattle.operators.proofs.galerkin.lay_sums.Goals as goal

@@ -1,4 +1,3 @@
-use Prim.Native.Nat.{◌-◌}
 use Rattle.operators.proofs.GatherLaws.{Summing}
 use Rattle.operators.proofs.galerkin.lay_sums.Given as goal
 

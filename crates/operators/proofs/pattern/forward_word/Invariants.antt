@@ -1,6 +1,6 @@
 -- `operators::pattern::forward_word` meets its contract. The invariant: the word has the first d places of the slot.
 -- Assumes nothing.
-use Prim.Native.Nat.{◌-◌, ◌≤◌}
+use Prim.Native.Nat.{◌≤◌}
 use mathlib.Core.Path.{◌≡◌}
 use Rattle.operators.proofs.LevelTableLaws.{placed}
 use Rattle.operators.proofs.pattern.forward_word.Given as goal

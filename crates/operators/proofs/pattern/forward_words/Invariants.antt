@@ -1,6 +1,6 @@
 -- `operators::pattern::forward_words` meets its contract. The invariant: the first e words are those of their slots.
 -- Assumes nothing.
-use Prim.Native.Nat.{◌-◌, ◌≤◌}
+use Prim.Native.Nat.{◌≤◌}
 use Rattle.numbers.proofs.TabulateLaws.{Filled}
 use Rattle.operators.specs.Levels.{slot_word_no}
 use Rattle.operators.proofs.pattern.forward_words.Given as goal

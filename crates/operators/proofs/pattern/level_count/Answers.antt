@@ -1,4 +1,3 @@
-use Prim.Native.Nat.{◌-◌}
 use native.Mathlib.Omega.{arith}
 use Rattle.lattice.proofs.GridLaws.{unknowns_most, at_inside}
 use Rattle.operators.proofs.LevelTableLaws.{counted_none, counted_turn, counted_end, counted_most, columns_most, pattern_most, pattern_length}

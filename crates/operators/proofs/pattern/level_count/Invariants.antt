@@ -1,6 +1,6 @@
 -- `operators::pattern::level_count` meets its contract. The invariant: the columns of the first r rows have been counted.
 -- Assumes nothing.
-use Prim.Native.Nat.{◌-◌, ◌≤◌}
+use Prim.Native.Nat.{◌≤◌}
 use Rattle.lattice.specs.Lattice.{full_lattice}
 use Rattle.operators.specs.Levels.{pattern_row}
 use Rattle.operators.proofs.LevelTableLaws.{Counted}

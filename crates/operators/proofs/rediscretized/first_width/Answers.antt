@@ -1,7 +1,6 @@
 -- `operators::rediscretized::first_width` meets its contract.
 -- Assumes nothing.
 use native.Mathlib.Omega.{arith}
-use Prim.Native.Nat.{◌-◌}
 use Rattle.lattice.proofs.LevelLaws.{in_double}
 use Rattle.operators.proofs.RediscretizedLaws.{first_wall, first_period}
 use Rattle.operators.proofs.rediscretized.first_width.Goals as goal

@@ -1,6 +1,6 @@
 -- `operators::rediscretized::lay_axis` meets its contract. The invariant: the stretches of the first m cells have been laid.
 -- Assumes nothing.
-use Prim.Native.Nat.{◌-◌, ◌≤◌}
+use Prim.Native.Nat.{◌≤◌}
 use Rattle.lattice.specs.Line.{ends_of}
 use Rattle.operators.specs.Rediscretized.{AxisLaid}
 use Rattle.operators.proofs.RediscretizedLaws.{node_by, half_by}

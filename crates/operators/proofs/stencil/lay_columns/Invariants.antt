@@ -1,6 +1,5 @@
 -- `operators::stencil::lay_columns` meets its contract. The invariant: the first m columns are laid.
 -- Assumes nothing.
-use Prim.Native.Nat.{◌-◌}
 use lib.ListN.{set}
 use Rattle.numbers.specs.Lists.{entry_at}
 use Rattle.numbers.proofs.ListLaws.{Laying}

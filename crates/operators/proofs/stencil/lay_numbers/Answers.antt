@@ -1,4 +1,3 @@
-use Prim.Native.Nat.{◌-◌}
 use native.Mathlib.Omega.{arith}
 use Rattle.numbers.proofs.ListLaws.{laying_start, laying_turn, laying_end, laying_most}
 use Rattle.numbers.proofs.ElementLaws.{rows_alone}

@@ -1,6 +1,5 @@
 -- `operators::stencil::lay_numbers` meets its contract. The invariant: the first m numbers are laid.
 -- Assumes nothing.
-use Prim.Native.Nat.{◌-◌}
 use Rattle.numbers.specs.Places.{number_at, set_number}
 use Rattle.numbers.proofs.ListLaws.{Laying}
 use Rattle.numbers.proofs.ElementLaws.{alone}

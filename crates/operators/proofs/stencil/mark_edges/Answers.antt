@@ -1,4 +1,3 @@
-use Prim.Native.Nat.{◌-◌}
 use native.Mathlib.Omega.{arith}
 use Rattle.lattice.proofs.ColumnLaws.{free_each}
 use Rattle.numbers.proofs.MarkedLaws.{marking_start, marking_turn, marking_low, marking_end}

@@ -1,6 +1,6 @@
 -- `operators::stencil::mark_edges` meets its contract. The invariant: the flags of the first m edges are set, but for fixed ones.
 -- Assumes nothing.
-use Prim.Native.Nat.{ℕ, ◌-◌}
+use Prim.Native.Nat.{ℕ}
 use mathlib.Core.List.{[], ◌∷◌}
 use Rattle.lattice.specs.Lattice.{full_lattice}
 use Rattle.lattice.specs.Rows.{free_of}

@@ -1,4 +1,3 @@
-use Prim.Native.Nat.{◌-◌}
 use native.Mathlib.Omega.{arith}
 use Rattle.numbers.proofs.MarkedLaws.{marking_start, marking_turn, marking_end}
 use Rattle.operators.proofs.stencil.mark_nodes.Goals as goal

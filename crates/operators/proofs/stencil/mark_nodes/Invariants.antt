@@ -1,6 +1,5 @@
 -- `operators::stencil::mark_nodes` meets its contract. The invariant: the flags of the edges of the first m nodes are set, but for fixed ones.
 -- Assumes nothing.
-use Prim.Native.Nat.{◌-◌}
 use Rattle.lattice.specs.Lattice.{full_lattice}
 use Rattle.lattice.specs.Rows.{free_columns}
 use Rattle.numbers.proofs.MarkedLaws.{Marking}

@@ -1,6 +1,6 @@
 -- `operators::tables::coarsen` meets its contract. The invariant: the first q relations are those one level down.
 -- Assumes nothing.
-use Prim.Native.Nat.{◌-◌, ◌≤◌}
+use Prim.Native.Nat.{◌≤◌}
 use mathlib.Core.Path.{◌≡◌}
 use lib.ListN.{length}
 use Rattle.operators.specs.Numbered.{relations_laid, words_below}

@@ -1,6 +1,5 @@
 -- `operators::volumes::inverse_shares` meets its contract. The invariant (`Sharing`): the first c inverse shares have been laid behind the volumes, which still stand.
 -- Assumes nothing.
-use Prim.Native.Nat.{◌-◌}
 use Rattle.numbers.specs.Lists.{read_from}
 use Rattle.operators.specs.Galerkin.{rows_in}
 use Rattle.operators.proofs.VolumeLaws.{Sharing}

@@ -1,4 +1,3 @@
-use Prim.Native.Nat.{◌-◌}
 use native.Mathlib.Omega.{arith}
 use Rattle.numbers.proofs.Equations.{read_from_is}
 use Rattle.operators.proofs.VolumeLaws.{weighing_start, weighing_turn, weighing_end}

@@ -1,6 +1,5 @@
 -- `operators::volumes::share` meets its contract. The invariant (`Weighing`): the sum of the rest comes to the whole.
 -- Assumes nothing.
-use Prim.Native.Nat.{◌-◌}
 use Rattle.numbers.specs.Lists.{read_from}
 use Rattle.operators.proofs.VolumeLaws.{Weighing}
 use Rattle.operators.proofs.volumes.share.Given as goal

@@ -1,4 +1,3 @@
-use Prim.Native.Nat.{◌-◌}
 use native.Mathlib.Omega.{arith}
 use Rattle.lattice.proofs.GridLaws.{unknowns_most}
 use Rattle.operators.proofs.VolumeLaws.{placing_start, placing_turn, placing_long, placing_end, placing_finite}

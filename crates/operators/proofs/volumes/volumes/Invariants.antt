@@ -1,6 +1,5 @@
 -- `operators::volumes::volumes` meets its contract. The invariant (`Placing`): the first r volumes have been laid.
 -- Assumes nothing.
-use Prim.Native.Nat.{◌-◌}
 use Rattle.lattice.specs.Lattice.{full_lattice}
 use Rattle.operators.specs.Volumes.{volume_of}
 use Rattle.operators.proofs.VolumeLaws.{Placing}

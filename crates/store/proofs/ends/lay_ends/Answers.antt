@@ -1,4 +1,3 @@
-use Prim.Native.Nat.{◌-◌}
 use native.Mathlib.Omega.{arith}
 use Rattle.numbers.proofs.ListLaws.{laying_start, laying_turn}
 use Rattle.store.proofs.EndLaws.{ends_low, ends_left_lem}

@@ -1,6 +1,6 @@
 -- `store::ends::lay_ends` meets its contract. The invariant: the ends of the first q lines are laid, one line behind another.
 -- Assumes nothing.
-use Prim.Native.Nat.{◌+◌, ◌*◌, ◌-◌}
+use Prim.Native.Nat.{◌+◌, ◌*◌}
 use lib.ListN.{set, get_or}
 use Rattle.numbers.proofs.ListLaws.{Laying}
 use Rattle.store.specs.Phases.{blank_line}

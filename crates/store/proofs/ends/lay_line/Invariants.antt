@@ -1,6 +1,5 @@
 -- `store::ends::lay_line` meets its contract. The invariant: the first m ends are laid.
 -- Assumes nothing.
-use Prim.Native.Nat.{◌-◌}
 use lib.ListN.{set}
 use Rattle.numbers.specs.Lists.{entry_at}
 use Rattle.numbers.proofs.ListLaws.{Laying}

@@ -1,4 +1,3 @@
-use Prim.Native.Nat.{◌-◌}
 use native.Mathlib.Omega.{arith}
 use Rattle.store.proofs.OperatorLaws.{growing_start, growing_ready, growing_count, growing_turn, growing_end, transfer_last}
 use Rattle.store.proofs.galerkin_levels.operators.Goals as goal

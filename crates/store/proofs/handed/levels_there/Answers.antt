@@ -1,7 +1,5 @@
-use Prim.Native.Nat.{◌-◌}
 use native.Mathlib.Omega.{arith}
 use mathlib.Core.Path.{◌≡◌, sym, ◌∙◌}
-use mathlib.Core.Bool.{true}
 use Rattle.store.proofs.HandedLaws.{levels_none, levels_more, levels_stop}
 use Rattle.store.proofs.handed.levels_there.Goals as goal
 

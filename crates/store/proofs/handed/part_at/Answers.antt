@@ -1,4 +1,3 @@
-use Prim.Native.Nat.{◌-◌}
 use mathlib.Core.Path.{refl}
 use Rattle.store.proofs.HandedLaws.{passed_start, passed_turn, passed_starts, passed_terms, passed_end}
 use Rattle.store.proofs.handed.part_at.Goals as goal

@@ -1,6 +1,6 @@
 -- `store::needed::cells_of` meets its contract. The invariant: the first q counts are those of their lines.
 -- Assumes nothing.
-use Prim.Native.Nat.{◌-◌, ◌≤◌}
+use Prim.Native.Nat.{◌≤◌}
 use Rattle.numbers.proofs.TabulateLaws.{Filled}
 use Rattle.store.specs.Needed.{line_cells}
 use Rattle.store.proofs.needed.cells_of.Given as goal

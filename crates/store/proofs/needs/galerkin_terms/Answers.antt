@@ -1,4 +1,3 @@
-use Prim.Native.Nat.{◌-◌}
 use native.Mathlib.Omega.{arith}
 use Rattle.store.proofs.NeedLaws.{totalling_start, totalling_few, totalling_turn, totalling_end}
 use Rattle.store.proofs.needs.galerkin_terms.Goals as goal

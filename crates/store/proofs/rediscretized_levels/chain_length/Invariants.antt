@@ -1,6 +1,6 @@
 -- `store::rediscretized_levels::chain_length` meets its contract. The invariant: the edges of the levels passed are added.
 -- Assumes nothing.
-use Prim.Native.Nat.{◌+◌, ◌-◌}
+use Prim.Native.Nat.{◌+◌}
 use mathlib.Core.Path.{◌≡◌}
 use Rattle.numbers.proofs.SumLaws.{Summing}
 use Rattle.lattice.specs.Lattice.{full_lattice}

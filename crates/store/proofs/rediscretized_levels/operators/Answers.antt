@@ -1,4 +1,3 @@
-use Prim.Native.Nat.{◌-◌}
 use native.Mathlib.Omega.{arith}
 use Rattle.store.proofs.AveragedLaws.{averaging_start, averaging_room, averaging_end, to_fits, behind_asked, averaging_turn}
 use Rattle.store.proofs.rediscretized_levels.operators.Goals as goal

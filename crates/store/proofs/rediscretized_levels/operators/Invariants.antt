@@ -1,6 +1,5 @@
 -- `store::rediscretized_levels::operators` meets its contract. The invariant: the levels passed are laid in closed form, for whichever permittivities are given.
 -- Assumes nothing.
-use Prim.Native.Nat.{◌-◌}
 use Rattle.lattice.specs.Lattice.{full_lattice}
 use Rattle.store.proofs.AveragedLaws.{Averaging}
 use Rattle.store.proofs.rediscretized_levels.operators.Given as goal

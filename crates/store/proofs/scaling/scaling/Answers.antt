@@ -1,4 +1,3 @@
-use Prim.Native.Nat.{◌-◌}
 use native.Mathlib.Omega.{arith}
 use Rattle.store.proofs.ScalingLaws.{scaling_start, scaling_room, scaling_end, sum_fits, turned_behind, scaling_turn}
 use Rattle.store.proofs.scaling.scaling.Goals as goal

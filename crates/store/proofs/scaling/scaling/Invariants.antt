@@ -1,6 +1,5 @@
 -- `store::scaling::scaling` meets its contract. The invariant: the transfers passed are laid in closed form, for whichever turned rows stand in the lists.
 -- Assumes nothing.
-use Prim.Native.Nat.{◌-◌}
 use Rattle.lattice.specs.Lattice.{full_lattice}
 use Rattle.store.proofs.ScalingLaws.{Scaling}
 use Rattle.store.proofs.scaling.scaling.Given as goal

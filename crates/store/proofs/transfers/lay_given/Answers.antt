@@ -1,4 +1,3 @@
-use Prim.Native.Nat.{◌-◌}
 use Rattle.operators.proofs.VolumeLaws.{placing_start, placing_end}
 use Rattle.store.proofs.TransferLaws.{placing_front}
 use Rattle.store.proofs.transfers.lay_given.Goals as goal

@@ -1,6 +1,5 @@
 -- `store::zeros::zero_doubles` meets its contract. The invariant: the first k places are zero.
 -- Assumes nothing.
-use Prim.Native.Nat.{◌-◌}
 use mathlib.Core.Path.{◌≡◌}
 use lib.ListN.{length}
 use Rattle.numbers.specs.Complex.{zero_f}

@@ -1,0 +1,57 @@
+-- `store::renew_operator::stencil_part` meets its contract. The rows are those of the lattice of the level's own lines.
+-- Assumes nothing.
+use native.Mathlib.Omega.{arith}
+use Rattle.operators.proofs.RediscretizedLists.{own_lattice}
+use Rattle.store.proofs.PartRowLaws.{own_held, own_tame, stencil_ready, stencil_done}
+use Rattle.renew.proofs.renew_operator.stencil_part.Goals as goal
+
+pub rediscretized_lattice-own-requires-clause-limits : goal.rediscretized_lattice-own-requires-clause-limits
+rediscretized_lattice-own-requires-clause-limits c = c.requires.limits
+
+pub rediscretized_lattice-own-requires-clause-held_three : goal.rediscretized_lattice-own-requires-clause-held_three
+rediscretized_lattice-own-requires-clause-held_three c = own_held _ c.requires.limits _ c.requires.level_lt_m c.requires.has_lines c.three-s.ensures
+
+pub rediscretized_stretches-stretches-requires-clause-limits : goal.rediscretized_stretches-stretches-requires-clause-limits
+rediscretized_stretches-stretches-requires-clause-limits c = c.requires.limits
+
+pub rediscretized_stretches-stretches-requires-clause-held_three : goal.rediscretized_stretches-stretches-requires-clause-held_three
+rediscretized_stretches-stretches-requires-clause-held_three c = own_held _ c.requires.limits _ c.requires.level_lt_m c.requires.has_lines c.three-s.ensures
+
+pub rediscretized_stretches-stretches-requires-clause-tame : goal.rediscretized_stretches-stretches-requires-clause-tame
+rediscretized_stretches-stretches-requires-clause-tame c = own_tame _ c.requires.limits _ c.requires.level_lt_m c.requires.has_lines c.three-s.ensures
+
+pub overflow_add-level-2 : goal.overflow_add-level-2
+overflow_add-level-2 c = omega (arith, c.requires.level_lt_m)
+
+pub level_edges-n-requires-clause-limits : goal.level_edges-n-requires-clause-limits
+level_edges-n-requires-clause-limits c = c.requires.limits
+
+pub level_edges-n-requires-clause-level_le_m : goal.level_edges-n-requires-clause-level_le_m
+level_edges-n-requires-clause-level_le_m c = (omega (arith, c.requires.level_lt_m), c.requires.level_lt_m.1)
+
+pub level_edges-n-requires-clause-has_lines : goal.level_edges-n-requires-clause-has_lines
+level_edges-n-requires-clause-has_lines c = c.requires.has_lines
+
+pub overflow_add-level-3 : goal.overflow_add-level-3
+overflow_add-level-3 c = omega (arith, c.requires.level_lt_m)
+
+pub stencil_rows-requires-clause-limits : goal.stencil_rows-requires-clause-limits
+stencil_rows-requires-clause-limits c = (stencil_ready _ c.requires.limits _ c.requires.level_lt_m c.requires.has_lines c.three-s.ensures (own_lattice _ _ _ _ c.rediscretized_lattice-own.ensures c.rediscretized_stretches-stretches.ensures.result_value) c.requires.from_value.0 c.level_edges-n.ensures c.args.eps.now c.args.ovalues.now c.args.flags.now c.requires.from_value.1 c.requires.operator_starts c.requires.m_in_bounds c.requires.part_flags).0
+
+pub stencil_rows-requires-clause-stencil_rule : goal.stencil_rows-requires-clause-stencil_rule
+stencil_rows-requires-clause-stencil_rule c = (stencil_ready _ c.requires.limits _ c.requires.level_lt_m c.requires.has_lines c.three-s.ensures (own_lattice _ _ _ _ c.rediscretized_lattice-own.ensures c.rediscretized_stretches-stretches.ensures.result_value) c.requires.from_value.0 c.level_edges-n.ensures c.args.eps.now c.args.ovalues.now c.args.flags.now c.requires.from_value.1 c.requires.operator_starts c.requires.m_in_bounds c.requires.part_flags).1.0
+
+pub stencil_rows-requires-clause-from_bound : goal.stencil_rows-requires-clause-from_bound
+stencil_rows-requires-clause-from_bound c = (stencil_ready _ c.requires.limits _ c.requires.level_lt_m c.requires.has_lines c.three-s.ensures (own_lattice _ _ _ _ c.rediscretized_lattice-own.ensures c.rediscretized_stretches-stretches.ensures.result_value) c.requires.from_value.0 c.level_edges-n.ensures c.args.eps.now c.args.ovalues.now c.args.flags.now c.requires.from_value.1 c.requires.operator_starts c.requires.m_in_bounds c.requires.part_flags).1.1.0
+
+pub stencil_rows-requires-clause-operator_starts : goal.stencil_rows-requires-clause-operator_starts
+stencil_rows-requires-clause-operator_starts c = (stencil_ready _ c.requires.limits _ c.requires.level_lt_m c.requires.has_lines c.three-s.ensures (own_lattice _ _ _ _ c.rediscretized_lattice-own.ensures c.rediscretized_stretches-stretches.ensures.result_value) c.requires.from_value.0 c.level_edges-n.ensures c.args.eps.now c.args.ovalues.now c.args.flags.now c.requires.from_value.1 c.requires.operator_starts c.requires.m_in_bounds c.requires.part_flags).1.1.1.0
+
+pub stencil_rows-requires-clause-level_in_bounds : goal.stencil_rows-requires-clause-level_in_bounds
+stencil_rows-requires-clause-level_in_bounds c = (stencil_ready _ c.requires.limits _ c.requires.level_lt_m c.requires.has_lines c.three-s.ensures (own_lattice _ _ _ _ c.rediscretized_lattice-own.ensures c.rediscretized_stretches-stretches.ensures.result_value) c.requires.from_value.0 c.level_edges-n.ensures c.args.eps.now c.args.ovalues.now c.args.flags.now c.requires.from_value.1 c.requires.operator_starts c.requires.m_in_bounds c.requires.part_flags).1.1.1.1.0
+
+pub stencil_rows-requires-clause-n_value : goal.stencil_rows-requires-clause-n_value
+stencil_rows-requires-clause-n_value c = (stencil_ready _ c.requires.limits _ c.requires.level_lt_m c.requires.has_lines c.three-s.ensures (own_lattice _ _ _ _ c.rediscretized_lattice-own.ensures c.rediscretized_stretches-stretches.ensures.result_value) c.requires.from_value.0 c.level_edges-n.ensures c.args.eps.now c.args.ovalues.now c.args.flags.now c.requires.from_value.1 c.requires.operator_starts c.requires.m_in_bounds c.requires.part_flags).1.1.1.1.1
+
+pub returns : goal.returns
+returns c = stencil_done _ c.requires.limits _ c.requires.level_lt_m c.requires.has_lines c.three-s.ensures (own_lattice _ _ _ _ c.rediscretized_lattice-own.ensures c.rediscretized_stretches-stretches.ensures.result_value) c.requires.from_value.0 c.level_edges-n.ensures c.args.base c.args.flags.now c.requires.part_flags c.stencil_rows.ensures

@@ -1,0 +1,23 @@
+-- `store::renew_transfer::averaged_row` meets its contract. The lines are those of the two levels.
+-- Assumes nothing.
+use mathlib.Core.Path.{sym, ◌∙◌}
+use Rattle.store.proofs.RenewTransferLaws.{taken_left, averaged_asked, averaged_done}
+use Rattle.renew.proofs.renew_transfer.averaged_row.Goals as goal
+
+pub returns-then-not-flag : goal.returns-then-not-flag
+returns-then-not-flag c = taken_left _ _ _ _ _ _ _ _ (sym c.flag.ensures ∙ c.if-not-flag.true)
+
+pub averaged_row-requires-clause-paired_lines : goal.averaged_row-requires-clause-paired_lines
+averaged_row-requires-clause-paired_lines c = (averaged_asked c.requires.pair_at _ c.requires.chain_room (c.requires.from_value.0, c.requires.from_value.1) c.requires.from_value.2).0
+
+pub averaged_row-requires-clause-nn_value : goal.averaged_row-requires-clause-nn_value
+averaged_row-requires-clause-nn_value c = (averaged_asked c.requires.pair_at _ c.requires.chain_room (c.requires.from_value.0, c.requires.from_value.1) c.requires.from_value.2).1.0
+
+pub averaged_row-requires-clause-r_bound : goal.averaged_row-requires-clause-r_bound
+averaged_row-requires-clause-r_bound c = (averaged_asked c.requires.pair_at _ c.requires.chain_room (c.requires.from_value.0, c.requires.from_value.1) c.requires.from_value.2).1.1.0
+
+pub averaged_row-requires-clause-chain_room : goal.averaged_row-requires-clause-chain_room
+averaged_row-requires-clause-chain_room c = (averaged_asked c.requires.pair_at _ c.requires.chain_room (c.requires.from_value.0, c.requires.from_value.1) c.requires.from_value.2).1.1.1
+
+pub returns : goal.returns
+returns c = averaged_done c.requires.pair_at _ c.requires.chain_room (c.requires.from_value.0, c.requires.from_value.1) c.requires.from_value.2 _ _ _ (sym c.flag.ensures ∙ c.if-not-flag.false) c.averaged_row.ensures.eps_after c.averaged_row.ensures.value
