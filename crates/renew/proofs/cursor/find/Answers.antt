@@ -1,5 +1,4 @@
 use native.Mathlib.Omega.{arith}
-use Prim.Native.Nat.{◌-◌}
 use Rattle.store.proofs.CellLaws.{finding_start, finding_row, finding_part, found_here, found_end}
 use Rattle.renew.proofs.cursor.find.Goals as goal
 

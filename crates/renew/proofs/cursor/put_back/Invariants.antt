@@ -1,6 +1,5 @@
 -- `store::cursor::put_back` meets its contract.
 -- Assumes nothing.
-use Prim.Native.Nat.{◌-◌}
 use mathlib.Core.Path.{◌≡◌}
 use lib.ListN.{length}
 use Rattle.store.specs.Renewed.{five}
@@ -9,7 +8,7 @@ use Rattle.store.proofs.CellLaws.{Putting}
 use Rattle.renew.proofs.cursor.put_back.Given as goal
 
 abbrev pub invariant-loop-k : goal.invariant-loop-k
-invariant-loop-k l = 
+invariant-loop-k l =
     Putting (chart l.flags l.shape l.starts l.tstarts l.ostarts) l.parts (five l.initial.eps l.initial.values l.initial.tvalues l.initial.ovalues l.initial.scaling) l.initial.c l.n l.old (five l.eps l.values l.tvalues l.ovalues l.scaling) l.c l.k
     × (length l.eps ≡ length l.initial.eps)
     × (length l.values ≡ length l.initial.values)

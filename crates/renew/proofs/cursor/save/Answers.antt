@@ -1,5 +1,4 @@
 use native.Mathlib.Omega.{arith}
-use Prim.Native.Nat.{◌-◌}
 use Rattle.store.proofs.CellLaws.{saving_start, saving_turn, saving_end}
 use Rattle.renew.proofs.cursor.save.Goals as goal
 

@@ -7,9 +7,9 @@ use Rattle.store.proofs.CellLaws.{Saving}
 use Rattle.renew.proofs.cursor.save.Given as goal
 
 abbrev pub invariant-loop-n : goal.invariant-loop-n
-invariant-loop-n l = 
+invariant-loop-n l =
     Saving (chart l.flags l.shape l.starts l.tstarts l.ostarts) l.parts (five l.eps l.values l.tvalues l.ovalues l.scaling) l.initial.c l.old l.c l.n
 
 abbrev pub decreases-loop-n : goal.decreases-loop-n
-decreases-loop-n l = 
+decreases-loop-n l =
     512 - l.n

@@ -87,4 +87,4 @@ returns c =
     let long = c.requires.m_bound_2 in
     let shaped = c.requires.shaped in
     let room = c.requires.five_room in
-    guard_whole l a.choice a.m x (flagged_rows l a.choice a.m a.flags.now) _ v c.guard.result _ (whole_in l c.requires.limits a.choice a.m c.requires.m_bound x shaped a.flags.now _ c.set_shape.ensures (7 * a.m + 1) refl c.find-c.result c.find-c.ensures) c.guard.ensures
+    guard_whole l a.choice a.m x (flagged_rows l a.choice a.m a.flags.now) _ v c.guard.result (five c.guard.new.eps c.guard.new.values c.guard.new.tvalues c.guard.new.ovalues c.guard.new.scaling) (whole_in l c.requires.limits a.choice a.m c.requires.m_bound x shaped a.flags.now _ c.set_shape.ensures (7 * a.m + 1) refl c.find-c.result c.find-c.ensures) c.guard.ensures

@@ -1,6 +1,6 @@
 use native.Mathlib.Omega.{arith}
 use Rattle.lattice.specs.Lattice.{full_lattice}
-use Prim.Native.Nat.{suc, ◌+◌, ◌-◌}
+use Prim.Native.Nat.{suc, ◌+◌}
 use mathlib.Core.Path.{◌≡◌, refl, ◌∙◌}
 use Rattle.store.specs.Renewed.{fixed}
 use Rattle.store.proofs.LevelParts.{room_long, starts_there, forward_count_lem, fine_next, levels_none, levels_next, levels_stop, levels_end}

@@ -1,7 +1,7 @@
 -- `store::renew::renew_levels` meets its contract. The invariant: where the parts of the next transfer begin, and the flagged rows of the transfers before it.
 -- Assumes nothing.
 use Rattle.lattice.specs.Lattice.{full_lattice}
-use Prim.Native.Nat.{suc, ◌≤◌, ◌-◌, ◌*◌}
+use Prim.Native.Nat.{suc, ◌≤◌, ◌*◌}
 use mathlib.Core.Path.{◌≡◌}
 use lib.ListN.{length}
 use Rattle.store.specs.FillSteps.{offsets_at}
@@ -12,7 +12,7 @@ use Rattle.store.specs.RenewLevels.{standing_at}
 use Rattle.renew.proofs.parts.renew_levels.Given as goal
 
 abbrev pub invariant-loop-level : goal.invariant-loop-level
-invariant-loop-level l = 
+invariant-loop-level l =
     (l.level ≤ l.m)
     × ((l.o ≡ offsets_at (full_lattice l.l l.st) l.level)
     × ((l.w ≡ standing_at (full_lattice l.l l.st) l.choice l.m l.level)

@@ -1,6 +1,6 @@
 -- `store::renew_operator::galerkin_rows` meets its contract. The invariant: the flagged ones of the first c rows are worked out, and the sums are +0.
 -- Assumes nothing.
-use Prim.Native.Nat.{suc, ◌≤◌, ◌-◌}
+use Prim.Native.Nat.{suc, ◌≤◌}
 use mathlib.Core.Path.{◌≡◌}
 use lib.ListN.{length}
 use Rattle.lattice.specs.Lattice.{full_lattice}
@@ -12,7 +12,7 @@ use Rattle.store.specs.RenewSteps.{GalerkinRenewed}
 use Rattle.renew.proofs.renew_operator.galerkin_rows.Given as goal
 
 abbrev pub invariant-loop-c : goal.invariant-loop-c
-invariant-loop-c l = 
+invariant-loop-c l =
     (l.c ≤ l.n)
     × ((length l.ovalues ≡ length l.initial.ovalues)
     × ((l.sums ≡ no_sums)

@@ -1,6 +1,6 @@
 -- `store::renew_transfer::coarse_part` meets its contract. The invariant: the flagged ones of the rows passed have been worked out, and are finite.
 -- Assumes nothing.
-use Prim.Native.Nat.{◌-◌, ◌≤◌}
+use Prim.Native.Nat.{◌≤◌}
 use mathlib.Core.Path.{◌≡◌}
 use lib.ListN.{length}
 use Rattle.lattice.specs.Lattice.{full_lattice}

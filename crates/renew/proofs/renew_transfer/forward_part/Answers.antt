@@ -26,42 +26,42 @@ value_places-cs-requires c = (lines_paired _ c.requires.limits _ c.requires.has_
 
 pub counts-ns-requires-clause-limits : goal.counts-ns-requires-clause-limits
 counts-ns-requires-clause-limits c = let levels : Worked (full_lattice c.args.l c.args.st.now) c.three-fine.result c.three-coarse.result c.grid_of-gf.result c.grid_of-gc.result c.value_places-fs.result c.value_places-cs.result = record {
-      paired = lines_paired _ c.requires.limits _ c.requires.has_lines c.requires.level_lt_m.0 c.three-fine.ensures c.three-coarse.ensures;
-      fine_is = c.grid_of-gf.ensures;
-      coarse_is = c.grid_of-gc.ensures;
-      values_fine = c.value_places-fs.ensures;
-      values_coarse = c.value_places-cs.ensures;
-    } in
+  paired = lines_paired _ c.requires.limits _ c.requires.has_lines c.requires.level_lt_m.0 c.three-fine.ensures c.three-coarse.ensures;
+  fine_is = c.grid_of-gf.ensures;
+  coarse_is = c.grid_of-gc.ensures;
+  values_fine = c.value_places-fs.ensures;
+  values_coarse = c.value_places-cs.ensures;
+} in
     let w = levels in coarse_in w
 
 pub counts-ns-requires-clause-values_of : goal.counts-ns-requires-clause-values_of
 counts-ns-requires-clause-values_of c = let levels : Worked (full_lattice c.args.l c.args.st.now) c.three-fine.result c.three-coarse.result c.grid_of-gf.result c.grid_of-gc.result c.value_places-fs.result c.value_places-cs.result = record {
-      paired = lines_paired _ c.requires.limits _ c.requires.has_lines c.requires.level_lt_m.0 c.three-fine.ensures c.three-coarse.ensures;
-      fine_is = c.grid_of-gf.ensures;
-      coarse_is = c.grid_of-gc.ensures;
-      values_fine = c.value_places-fs.ensures;
-      values_coarse = c.value_places-cs.ensures;
-    } in
+  paired = lines_paired _ c.requires.limits _ c.requires.has_lines c.requires.level_lt_m.0 c.three-fine.ensures c.three-coarse.ensures;
+  fine_is = c.grid_of-gf.ensures;
+  coarse_is = c.grid_of-gc.ensures;
+  values_fine = c.value_places-fs.ensures;
+  values_coarse = c.value_places-cs.ensures;
+} in
     let w = levels in values_are w
 
 pub places-ps-requires-clause-limits : goal.places-ps-requires-clause-limits
 places-ps-requires-clause-limits c = let levels : Worked (full_lattice c.args.l c.args.st.now) c.three-fine.result c.three-coarse.result c.grid_of-gf.result c.grid_of-gc.result c.value_places-fs.result c.value_places-cs.result = record {
-      paired = lines_paired _ c.requires.limits _ c.requires.has_lines c.requires.level_lt_m.0 c.three-fine.ensures c.three-coarse.ensures;
-      fine_is = c.grid_of-gf.ensures;
-      coarse_is = c.grid_of-gc.ensures;
-      values_fine = c.value_places-fs.ensures;
-      values_coarse = c.value_places-cs.ensures;
-    } in
+  paired = lines_paired _ c.requires.limits _ c.requires.has_lines c.requires.level_lt_m.0 c.three-fine.ensures c.three-coarse.ensures;
+  fine_is = c.grid_of-gf.ensures;
+  coarse_is = c.grid_of-gc.ensures;
+  values_fine = c.value_places-fs.ensures;
+  values_coarse = c.value_places-cs.ensures;
+} in
     let w = levels in coarse_in w
 
 pub places-ps-requires-clause-values_of : goal.places-ps-requires-clause-values_of
 places-ps-requires-clause-values_of c = let levels : Worked (full_lattice c.args.l c.args.st.now) c.three-fine.result c.three-coarse.result c.grid_of-gf.result c.grid_of-gc.result c.value_places-fs.result c.value_places-cs.result = record {
-      paired = lines_paired _ c.requires.limits _ c.requires.has_lines c.requires.level_lt_m.0 c.three-fine.ensures c.three-coarse.ensures;
-      fine_is = c.grid_of-gf.ensures;
-      coarse_is = c.grid_of-gc.ensures;
-      values_fine = c.value_places-fs.ensures;
-      values_coarse = c.value_places-cs.ensures;
-    } in
+  paired = lines_paired _ c.requires.limits _ c.requires.has_lines c.requires.level_lt_m.0 c.three-fine.ensures c.three-coarse.ensures;
+  fine_is = c.grid_of-gf.ensures;
+  coarse_is = c.grid_of-gc.ensures;
+  values_fine = c.value_places-fs.ensures;
+  values_coarse = c.value_places-cs.ensures;
+} in
     let w = levels in values_are w
 
 pub nodes-nn-requires : goal.nodes-nn-requires
@@ -69,23 +69,23 @@ nodes-nn-requires c = lines_paired _ c.requires.limits _ c.requires.has_lines c.
 
 pub reads-ds-requires-clause-nn_len : goal.reads-ds-requires-clause-nn_len
 reads-ds-requires-clause-nn_len c = let levels : Worked (full_lattice c.args.l c.args.st.now) c.three-fine.result c.three-coarse.result c.grid_of-gf.result c.grid_of-gc.result c.value_places-fs.result c.value_places-cs.result = record {
-      paired = lines_paired _ c.requires.limits _ c.requires.has_lines c.requires.level_lt_m.0 c.three-fine.ensures c.three-coarse.ensures;
-      fine_is = c.grid_of-gf.ensures;
-      coarse_is = c.grid_of-gc.ensures;
-      values_fine = c.value_places-fs.ensures;
-      values_coarse = c.value_places-cs.ensures;
-    } in
+  paired = lines_paired _ c.requires.limits _ c.requires.has_lines c.requires.level_lt_m.0 c.three-fine.ensures c.three-coarse.ensures;
+  fine_is = c.grid_of-gf.ensures;
+  coarse_is = c.grid_of-gc.ensures;
+  values_fine = c.value_places-fs.ensures;
+  values_coarse = c.value_places-cs.ensures;
+} in
     let slots : Slotted (full_lattice c.args.l c.args.st.now) c.three-fine.result c.three-coarse.result c.grid_of-gf.result c.grid_of-gc.result c.places-ps.result c.counts-ns.result = slotted (levels) c.counts-ns.ensures c.places-ps.ensures in
     (slots_low (slots) c.nodes-nn.ensures).0
 
 pub reads-ds-requires-clause-by_index : goal.reads-ds-requires-clause-by_index
 reads-ds-requires-clause-by_index c = let levels : Worked (full_lattice c.args.l c.args.st.now) c.three-fine.result c.three-coarse.result c.grid_of-gf.result c.grid_of-gc.result c.value_places-fs.result c.value_places-cs.result = record {
-      paired = lines_paired _ c.requires.limits _ c.requires.has_lines c.requires.level_lt_m.0 c.three-fine.ensures c.three-coarse.ensures;
-      fine_is = c.grid_of-gf.ensures;
-      coarse_is = c.grid_of-gc.ensures;
-      values_fine = c.value_places-fs.ensures;
-      values_coarse = c.value_places-cs.ensures;
-    } in
+  paired = lines_paired _ c.requires.limits _ c.requires.has_lines c.requires.level_lt_m.0 c.three-fine.ensures c.three-coarse.ensures;
+  fine_is = c.grid_of-gf.ensures;
+  coarse_is = c.grid_of-gc.ensures;
+  values_fine = c.value_places-fs.ensures;
+  values_coarse = c.value_places-cs.ensures;
+} in
     let slots : Slotted (full_lattice c.args.l c.args.st.now) c.three-fine.result c.three-coarse.result c.grid_of-gf.result c.grid_of-gc.result c.places-ps.result c.counts-ns.result = slotted (levels) c.counts-ns.ensures c.places-ps.ensures in
     (slots_low (slots) c.nodes-nn.ensures).1
 
@@ -97,36 +97,36 @@ last_ends-es-requires c = (lines_paired _ c.requires.limits _ c.requires.has_lin
 
 pub pulls-xs-requires-clause-limits : goal.pulls-xs-requires-clause-limits
 pulls-xs-requires-clause-limits c = let levels : Worked (full_lattice c.args.l c.args.st.now) c.three-fine.result c.three-coarse.result c.grid_of-gf.result c.grid_of-gc.result c.value_places-fs.result c.value_places-cs.result = record {
-      paired = lines_paired _ c.requires.limits _ c.requires.has_lines c.requires.level_lt_m.0 c.three-fine.ensures c.three-coarse.ensures;
-      fine_is = c.grid_of-gf.ensures;
-      coarse_is = c.grid_of-gc.ensures;
-      values_fine = c.value_places-fs.ensures;
-      values_coarse = c.value_places-cs.ensures;
-    } in
+  paired = lines_paired _ c.requires.limits _ c.requires.has_lines c.requires.level_lt_m.0 c.three-fine.ensures c.three-coarse.ensures;
+  fine_is = c.grid_of-gf.ensures;
+  coarse_is = c.grid_of-gc.ensures;
+  values_fine = c.value_places-fs.ensures;
+  values_coarse = c.value_places-cs.ensures;
+} in
     let w = levels in
     let e = ends_of_lem w.paired.coarse_held c.last_ends-es.ensures in
     coarse_in w
 
 pub pulls-xs-requires-clause-values_of : goal.pulls-xs-requires-clause-values_of
 pulls-xs-requires-clause-values_of c = let levels : Worked (full_lattice c.args.l c.args.st.now) c.three-fine.result c.three-coarse.result c.grid_of-gf.result c.grid_of-gc.result c.value_places-fs.result c.value_places-cs.result = record {
-      paired = lines_paired _ c.requires.limits _ c.requires.has_lines c.requires.level_lt_m.0 c.three-fine.ensures c.three-coarse.ensures;
-      fine_is = c.grid_of-gf.ensures;
-      coarse_is = c.grid_of-gc.ensures;
-      values_fine = c.value_places-fs.ensures;
-      values_coarse = c.value_places-cs.ensures;
-    } in
+  paired = lines_paired _ c.requires.limits _ c.requires.has_lines c.requires.level_lt_m.0 c.three-fine.ensures c.three-coarse.ensures;
+  fine_is = c.grid_of-gf.ensures;
+  coarse_is = c.grid_of-gc.ensures;
+  values_fine = c.value_places-fs.ensures;
+  values_coarse = c.value_places-cs.ensures;
+} in
     let w = levels in
     let e = ends_of_lem w.paired.coarse_held c.last_ends-es.ensures in
     values_are w
 
 pub pulls-xs-requires-clause-xs_len : goal.pulls-xs-requires-clause-xs_len
 pulls-xs-requires-clause-xs_len c = let levels : Worked (full_lattice c.args.l c.args.st.now) c.three-fine.result c.three-coarse.result c.grid_of-gf.result c.grid_of-gc.result c.value_places-fs.result c.value_places-cs.result = record {
-      paired = lines_paired _ c.requires.limits _ c.requires.has_lines c.requires.level_lt_m.0 c.three-fine.ensures c.three-coarse.ensures;
-      fine_is = c.grid_of-gf.ensures;
-      coarse_is = c.grid_of-gc.ensures;
-      values_fine = c.value_places-fs.ensures;
-      values_coarse = c.value_places-cs.ensures;
-    } in
+  paired = lines_paired _ c.requires.limits _ c.requires.has_lines c.requires.level_lt_m.0 c.three-fine.ensures c.three-coarse.ensures;
+  fine_is = c.grid_of-gf.ensures;
+  coarse_is = c.grid_of-gc.ensures;
+  values_fine = c.value_places-fs.ensures;
+  values_coarse = c.value_places-cs.ensures;
+} in
     let w = levels in
     let e = ends_of_lem w.paired.coarse_held c.last_ends-es.ensures in
     (c.maps-maps.ensures.long, e)
@@ -136,12 +136,12 @@ edges-n-requires c = lines_limits _ _ c.requires.has_lines (omega (arith, c.requ
 
 pub forward_rows-requires-clause-weights_ready : goal.forward_rows-requires-clause-weights_ready
 forward_rows-requires-clause-weights_ready c = let levels : Worked (full_lattice c.args.l c.args.st.now) c.three-fine.result c.three-coarse.result c.grid_of-gf.result c.grid_of-gc.result c.value_places-fs.result c.value_places-cs.result = record {
-      paired = lines_paired _ c.requires.limits _ c.requires.has_lines c.requires.level_lt_m.0 c.three-fine.ensures c.three-coarse.ensures;
-      fine_is = c.grid_of-gf.ensures;
-      coarse_is = c.grid_of-gc.ensures;
-      values_fine = c.value_places-fs.ensures;
-      values_coarse = c.value_places-cs.ensures;
-    } in
+  paired = lines_paired _ c.requires.limits _ c.requires.has_lines c.requires.level_lt_m.0 c.three-fine.ensures c.three-coarse.ensures;
+  fine_is = c.grid_of-gf.ensures;
+  coarse_is = c.grid_of-gc.ensures;
+  values_fine = c.value_places-fs.ensures;
+  values_coarse = c.value_places-cs.ensures;
+} in
     let slots : Slotted (full_lattice c.args.l c.args.st.now) c.three-fine.result c.three-coarse.result c.grid_of-gf.result c.grid_of-gc.result c.places-ps.result c.counts-ns.result = slotted (levels) c.counts-ns.ensures c.places-ps.ensures in
     let pulls : Pulled (full_lattice c.args.l c.args.st.now) c.three-fine.result c.three-coarse.result c.grid_of-gf.result c.grid_of-gc.result c.places-ps.result c.counts-ns.result c.reads-ds.result c.pulls-xs.result = pulled (levels) (slots) c.nodes-nn.ensures c.reads-ds.ensures c.maps-maps.ensures c.last_ends-es.ensures c.pulls-xs.ensures in
     let b = both_lines _ c.requires.limits _ c.requires.has_lines c.requires.level_lt_m.0 c.three-fine.ensures c.three-coarse.ensures in
@@ -152,12 +152,12 @@ forward_rows-requires-clause-weights_ready c = let levels : Worked (full_lattice
 
 pub forward_rows-requires-clause-starts_at : goal.forward_rows-requires-clause-starts_at
 forward_rows-requires-clause-starts_at c = let levels : Worked (full_lattice c.args.l c.args.st.now) c.three-fine.result c.three-coarse.result c.grid_of-gf.result c.grid_of-gc.result c.value_places-fs.result c.value_places-cs.result = record {
-      paired = lines_paired _ c.requires.limits _ c.requires.has_lines c.requires.level_lt_m.0 c.three-fine.ensures c.three-coarse.ensures;
-      fine_is = c.grid_of-gf.ensures;
-      coarse_is = c.grid_of-gc.ensures;
-      values_fine = c.value_places-fs.ensures;
-      values_coarse = c.value_places-cs.ensures;
-    } in
+  paired = lines_paired _ c.requires.limits _ c.requires.has_lines c.requires.level_lt_m.0 c.three-fine.ensures c.three-coarse.ensures;
+  fine_is = c.grid_of-gf.ensures;
+  coarse_is = c.grid_of-gc.ensures;
+  values_fine = c.value_places-fs.ensures;
+  values_coarse = c.value_places-cs.ensures;
+} in
     let slots : Slotted (full_lattice c.args.l c.args.st.now) c.three-fine.result c.three-coarse.result c.grid_of-gf.result c.grid_of-gc.result c.places-ps.result c.counts-ns.result = slotted (levels) c.counts-ns.ensures c.places-ps.ensures in
     let pulls : Pulled (full_lattice c.args.l c.args.st.now) c.three-fine.result c.three-coarse.result c.grid_of-gf.result c.grid_of-gc.result c.places-ps.result c.counts-ns.result c.reads-ds.result c.pulls-xs.result = pulled (levels) (slots) c.nodes-nn.ensures c.reads-ds.ensures c.maps-maps.ensures c.last_ends-es.ensures c.pulls-xs.ensures in
     let b = both_lines _ c.requires.limits _ c.requires.has_lines c.requires.level_lt_m.0 c.three-fine.ensures c.three-coarse.ensures in
@@ -168,12 +168,12 @@ forward_rows-requires-clause-starts_at c = let levels : Worked (full_lattice c.a
 
 pub forward_rows-requires-clause-part_flags : goal.forward_rows-requires-clause-part_flags
 forward_rows-requires-clause-part_flags c = let levels : Worked (full_lattice c.args.l c.args.st.now) c.three-fine.result c.three-coarse.result c.grid_of-gf.result c.grid_of-gc.result c.value_places-fs.result c.value_places-cs.result = record {
-      paired = lines_paired _ c.requires.limits _ c.requires.has_lines c.requires.level_lt_m.0 c.three-fine.ensures c.three-coarse.ensures;
-      fine_is = c.grid_of-gf.ensures;
-      coarse_is = c.grid_of-gc.ensures;
-      values_fine = c.value_places-fs.ensures;
-      values_coarse = c.value_places-cs.ensures;
-    } in
+  paired = lines_paired _ c.requires.limits _ c.requires.has_lines c.requires.level_lt_m.0 c.three-fine.ensures c.three-coarse.ensures;
+  fine_is = c.grid_of-gf.ensures;
+  coarse_is = c.grid_of-gc.ensures;
+  values_fine = c.value_places-fs.ensures;
+  values_coarse = c.value_places-cs.ensures;
+} in
     let slots : Slotted (full_lattice c.args.l c.args.st.now) c.three-fine.result c.three-coarse.result c.grid_of-gf.result c.grid_of-gc.result c.places-ps.result c.counts-ns.result = slotted (levels) c.counts-ns.ensures c.places-ps.ensures in
     let pulls : Pulled (full_lattice c.args.l c.args.st.now) c.three-fine.result c.three-coarse.result c.grid_of-gf.result c.grid_of-gc.result c.places-ps.result c.counts-ns.result c.reads-ds.result c.pulls-xs.result = pulled (levels) (slots) c.nodes-nn.ensures c.reads-ds.ensures c.maps-maps.ensures c.last_ends-es.ensures c.pulls-xs.ensures in
     let b = both_lines _ c.requires.limits _ c.requires.has_lines c.requires.level_lt_m.0 c.three-fine.ensures c.three-coarse.ensures in
@@ -184,12 +184,12 @@ forward_rows-requires-clause-part_flags c = let levels : Worked (full_lattice c.
 
 pub forward_rows-requires-clause-k_value : goal.forward_rows-requires-clause-k_value
 forward_rows-requires-clause-k_value c = let levels : Worked (full_lattice c.args.l c.args.st.now) c.three-fine.result c.three-coarse.result c.grid_of-gf.result c.grid_of-gc.result c.value_places-fs.result c.value_places-cs.result = record {
-      paired = lines_paired _ c.requires.limits _ c.requires.has_lines c.requires.level_lt_m.0 c.three-fine.ensures c.three-coarse.ensures;
-      fine_is = c.grid_of-gf.ensures;
-      coarse_is = c.grid_of-gc.ensures;
-      values_fine = c.value_places-fs.ensures;
-      values_coarse = c.value_places-cs.ensures;
-    } in
+  paired = lines_paired _ c.requires.limits _ c.requires.has_lines c.requires.level_lt_m.0 c.three-fine.ensures c.three-coarse.ensures;
+  fine_is = c.grid_of-gf.ensures;
+  coarse_is = c.grid_of-gc.ensures;
+  values_fine = c.value_places-fs.ensures;
+  values_coarse = c.value_places-cs.ensures;
+} in
     let slots : Slotted (full_lattice c.args.l c.args.st.now) c.three-fine.result c.three-coarse.result c.grid_of-gf.result c.grid_of-gc.result c.places-ps.result c.counts-ns.result = slotted (levels) c.counts-ns.ensures c.places-ps.ensures in
     let pulls : Pulled (full_lattice c.args.l c.args.st.now) c.three-fine.result c.three-coarse.result c.grid_of-gf.result c.grid_of-gc.result c.places-ps.result c.counts-ns.result c.reads-ds.result c.pulls-xs.result = pulled (levels) (slots) c.nodes-nn.ensures c.reads-ds.ensures c.maps-maps.ensures c.last_ends-es.ensures c.pulls-xs.ensures in
     let b = both_lines _ c.requires.limits _ c.requires.has_lines c.requires.level_lt_m.0 c.three-fine.ensures c.three-coarse.ensures in
@@ -200,12 +200,12 @@ forward_rows-requires-clause-k_value c = let levels : Worked (full_lattice c.arg
 
 pub forward_rows-requires-clause-level_bound : goal.forward_rows-requires-clause-level_bound
 forward_rows-requires-clause-level_bound c = let levels : Worked (full_lattice c.args.l c.args.st.now) c.three-fine.result c.three-coarse.result c.grid_of-gf.result c.grid_of-gc.result c.value_places-fs.result c.value_places-cs.result = record {
-      paired = lines_paired _ c.requires.limits _ c.requires.has_lines c.requires.level_lt_m.0 c.three-fine.ensures c.three-coarse.ensures;
-      fine_is = c.grid_of-gf.ensures;
-      coarse_is = c.grid_of-gc.ensures;
-      values_fine = c.value_places-fs.ensures;
-      values_coarse = c.value_places-cs.ensures;
-    } in
+  paired = lines_paired _ c.requires.limits _ c.requires.has_lines c.requires.level_lt_m.0 c.three-fine.ensures c.three-coarse.ensures;
+  fine_is = c.grid_of-gf.ensures;
+  coarse_is = c.grid_of-gc.ensures;
+  values_fine = c.value_places-fs.ensures;
+  values_coarse = c.value_places-cs.ensures;
+} in
     let slots : Slotted (full_lattice c.args.l c.args.st.now) c.three-fine.result c.three-coarse.result c.grid_of-gf.result c.grid_of-gc.result c.places-ps.result c.counts-ns.result = slotted (levels) c.counts-ns.ensures c.places-ps.ensures in
     let pulls : Pulled (full_lattice c.args.l c.args.st.now) c.three-fine.result c.three-coarse.result c.grid_of-gf.result c.grid_of-gc.result c.places-ps.result c.counts-ns.result c.reads-ds.result c.pulls-xs.result = pulled (levels) (slots) c.nodes-nn.ensures c.reads-ds.ensures c.maps-maps.ensures c.last_ends-es.ensures c.pulls-xs.ensures in
     let b = both_lines _ c.requires.limits _ c.requires.has_lines c.requires.level_lt_m.0 c.three-fine.ensures c.three-coarse.ensures in

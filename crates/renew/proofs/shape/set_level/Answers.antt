@@ -1,5 +1,4 @@
 use native.Mathlib.Omega.{arith}
-use Prim.Native.Nat.{◌-◌}
 use mathlib.Core.Path.{◌≡◌, ap}
 use Rattle.store.specs.declared.change.Words.{Words}
 use Rattle.store.proofs.MarkLaws.{level_start, level_turn, level_count, words_few}

@@ -1,4 +1,4 @@
-use Prim.Native.Nat.{◌+◌, ◌-◌}
+use Prim.Native.Nat.{◌+◌}
 use native.Mathlib.Omega.{arith}
 use Rattle.lattice.specs.Lattice.{full_lattice}
 use Rattle.store.specs.Renewed.{fixed}
