@@ -1,5 +1,5 @@
 use Rattle.store.proofs.CompareLaws.{next_edges_lem, gives_long, operators_start, operators_room, operators_most, operators_bad, operators_behind, operators_turn, operators_end}
-use Prim.Native.Nat.{suc, ◌-◌}
+use Prim.Native.Nat.{suc}
 use native.Mathlib.Omega.{arith}
 use Rattle.lattice.specs.Lattice.{full_lattice}
 use Rattle.changes.proofs.compare.coarse_operator.Goals as goal

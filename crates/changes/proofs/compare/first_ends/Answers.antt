@@ -1,4 +1,3 @@
-use Prim.Native.Nat.{◌-◌}
 use native.Mathlib.Omega.{arith}
 use Rattle.store.proofs.CompareLaws.{ends_start, ends_ask, ends_turn, ends_bad, ends_end}
 use Rattle.changes.proofs.compare.first_ends.Goals as goal

@@ -1,5 +1,5 @@
 use Rattle.store.proofs.TurnLaws.{places_turn}
-use Prim.Native.Nat.{◌+◌, ◌-◌}
+use Prim.Native.Nat.{◌+◌}
 use mathlib.Core.Path.{refl, ◌∙◌}
 use native.Mathlib.Omega.{arith}
 use lib.ListN.{get_or, length-set}

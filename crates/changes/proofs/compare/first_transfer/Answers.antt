@@ -1,4 +1,3 @@
-use Prim.Native.Nat.{◌-◌}
 use native.Mathlib.Omega.{arith}
 use Rattle.store.proofs.CompareLaws.{next_edges_lem, transfers_start, forward_room, turned_room_lem, transfers_bad, forward_behind, turned_behind, transfers_turn, transfers_end}
 use Rattle.changes.proofs.compare.first_transfer.Goals as goal

@@ -1,4 +1,3 @@
-use Prim.Native.Nat.{◌-◌}
 use mathlib.Core.Path.{refl}
 use Rattle.store.proofs.MatchLaws.{sames_start, sames_turn, sames_end, sames_stop}
 use Rattle.changes.proofs.compare.same.Goals as goal

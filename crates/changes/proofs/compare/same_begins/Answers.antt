@@ -1,4 +1,3 @@
-use Prim.Native.Nat.{◌-◌}
 use native.Mathlib.Omega.{arith}
 use Rattle.store.proofs.TurnLaws.{begin_start, begin_turn, begin_none, begin_stop, begin_end}
 use Rattle.changes.proofs.compare.same_begins.Goals as goal

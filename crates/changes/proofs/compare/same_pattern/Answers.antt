@@ -1,5 +1,5 @@
 use Rattle.store.proofs.MatchLaws.{going_start, going_end, laid_ask, laid_turn, laid_bad}
-use Prim.Native.Nat.{ℕ, ◌+◌, ◌-◌}
+use Prim.Native.Nat.{ℕ, ◌+◌}
 use mathlib.Core.Path.{refl, ap, ◌∙◌}
 use native.Mathlib.Omega.{arith}
 use lib.Dec.{eqb}

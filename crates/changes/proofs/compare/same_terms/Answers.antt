@@ -1,6 +1,4 @@
 use Rattle.store.proofs.TurnLaws.{row_start, row_turn, row_stop, row_end, row_true}
-use Prim.Native.Nat.{◌-◌}
-use mathlib.Core.Bool.{true}
 use mathlib.Core.Path.{refl}
 use native.Mathlib.Omega.{arith}
 use Rattle.changes.proofs.compare.same_terms.Goals as goal

@@ -1,7 +1,5 @@
 use lib.ListN.{length}
 use Rattle.store.proofs.TurnLaws.{rows_start, rows_turn, rows_bad, rows_end, row_true, walk_row}
-use Prim.Native.Nat.{◌-◌}
-use mathlib.Core.Bool.{true}
 use mathlib.Core.Path.{refl}
 use native.Mathlib.Omega.{arith}
 use Rattle.changes.proofs.compare.same_turns.Goals as goal

@@ -1,6 +1,6 @@
 use Rattle.store.proofs.MatchLaws.{going_start, going_end, laid_ask, laid_turn, laid_bad}
 use Rattle.store.proofs.CompareLaws.{both_grids, weights_fine_lem, weights_asked, weights_count, weights_laid, weights_few}
-use Prim.Native.Nat.{ℕ, ◌+◌, ◌-◌}
+use Prim.Native.Nat.{ℕ, ◌+◌}
 use mathlib.Core.Path.{refl, ap}
 use native.Mathlib.Omega.{arith}
 use lib.Dec.{eqb}

@@ -1,7 +1,6 @@
 -- `store::compare::same_weights` meets its contract. The invariant holds of each two levels with these tables: the first r rows stand in the lists.
 -- Assumes nothing.
 use Rattle.store.proofs.MatchLaws.{Going}
-use Prim.Native.Nat.{◌-◌}
 use Rattle.lattice.specs.declared.levels.Three.{Three}
 use Rattle.lattice.specs.Grid.{unknowns_of}
 use Rattle.lattice.specs.Lattice.{FullLattice}
@@ -11,5 +10,5 @@ use Rattle.weights.proofs.MeaningLaws.{Slotted}
 use Rattle.changes.proofs.compare.same_weights.Given as goal
 
 abbrev pub invariant-loop-r : goal.invariant-loop-r
-invariant-loop-r l = 
+invariant-loop-r l =
     (g : FullLattice) (fine coarse : Three) → Slotted g fine coarse l.gf l.gc l.ps l.ns → Going (weight_columns (two_of g fine coarse)) (unknowns_of (fine_grid (two_of g fine coarse))) l.o l.starts l.columns l.k l.r
