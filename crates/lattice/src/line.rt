@@ -2,7 +2,7 @@
 
 ghost use Rattle.std.specs.Prelude.{◌≡◌, ◌++◌, ℕ, ◌+◌, ◌-◌, ◌<◌, ◌≤◌, min, get_or, replicate};
 ghost use Rattle.lattice.specs.Line.{packed, ends_of, finest_ends, joins_by, next_by, coarser_ends, place_of, nodes_of, Held};
-ghost use Rattle.numbers.specs.Lists.{before as beforeOf, Rises};
+ghost use Rattle.numbers.specs.Lists.{before as before_of, Rises};
 
 use numbers::C64;
 
@@ -85,7 +85,7 @@ fn before_from(l: Line, from: usize, e: usize) -> usize
     requires held { Held l }
     requires from_bound { from ≤ l.cells + 1 }
     requires by_index { (m : ℕ) → m < from → get_or l.ends m 0 < e }
-    ensures { result ≡ beforeOf e (ends_of l) }
+    ensures { result ≡ before_of e (ends_of l) }
 {
     let n = l.cells + 1;
     let mut q = from;

@@ -2,7 +2,7 @@
 
 ghost use Rattle.std.specs.Prelude.{◌≡◌, true, false, [], ◌∷◌, ◌+◌, ◌-◌, ◌*◌, ◌<◌, ◌≤◌, ◌^◌, min, length, get_or, set, replicate};
 ghost use Rattle.numbers.specs.Places.{set_number, number_at};
-ghost use Rattle.numbers.specs.Lists.{tabulate, Laid, all_finite, any_flag, Marked, places_in, contains as containsIn, repeats as repeatsIn};
+ghost use Rattle.numbers.specs.Lists.{tabulate, Laid, all_finite, any_flag, Marked, places_in, contains as contains_in, repeats as repeats_in};
 ghost use Rattle.numbers.specs.Terms.{Below};
 
 use crate::C64;
@@ -98,7 +98,7 @@ pub fn mark_each(flags: &mut [bool], columns: &[usize], n: usize)
 // Whether one of the columns from place m to place n - 1 is c.
 fn contains_from(columns: &[usize], m: usize, n: usize, c: usize) -> bool
     requires { n ≤ length columns.now }
-    ensures { result ≡ containsIn c (places_in columns.now m (n - m)) }
+    ensures { result ≡ contains_in c (places_in columns.now m (n - m)) }
 {
     for q in m..n {
         if columns[q] == c {
@@ -111,7 +111,7 @@ fn contains_from(columns: &[usize], m: usize, n: usize, c: usize) -> bool
 // Whether a column stands twice among the first n.
 pub fn repeats(columns: &[usize], n: usize) -> bool
     requires { n ≤ length columns.now }
-    ensures { result ≡ repeatsIn (places_in columns.now 0 n) }
+    ensures { result ≡ repeats_in (places_in columns.now 0 n) }
 {
     for m in 0..n {
         if contains_from(columns, m + 1, n, columns[m]) {

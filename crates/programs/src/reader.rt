@@ -6,7 +6,7 @@ ghost use Rattle.lattice.specs.Check.{verdict_of};
 ghost use Rattle.store.specs.Steps.{answer_of};
 ghost use Rattle.store.specs.ChangeSteps.{changed_of};
 ghost use Rattle.programs.specs.Bytes.{word32, pair_at};
-ghost use Rattle.programs.specs.Reading.{fresh, told as toldWith, told_by, between as betweenWith, answered as answeredWith, last_offset, opened as openedAt, axis_seen, end_seen, bare_read, kind_read, taken, stepped, whole, grid_verdict, grid_seen, grid_read, axis_read, number_read, choice_by, choice_read, finished};
+ghost use Rattle.programs.specs.Reading.{fresh, told as told_with, told_by, between as between_with, answered as answered_with, last_offset, opened as opened_at, axis_seen, end_seen, bare_read, kind_read, taken, stepped, whole, grid_verdict, grid_seen, grid_read, axis_read, number_read, choice_by, choice_read, finished};
 ghost use Rattle.programs.specs.Records.{due_of, body_size};
 
 use crate::records::{BODY, Seen};
@@ -59,7 +59,7 @@ pub fn fresh() -> Reader
 // ---- answers
 
 fn say(number: usize, place: usize) -> Told
-    ensures { result ≡ toldWith number place }
+    ensures { result ≡ told_with number place }
 {
     Told { number, place }
 }
@@ -107,7 +107,7 @@ pub fn change_told(a: Changed) -> Told
 
 // Between records, with what was read so far.
 pub fn between(r: Reader, s: Seen) -> Reader
-    ensures { result ≡ betweenWith r s }
+    ensures { result ≡ between_with r s }
 {
     let mut u = r;
     u.seen = s;
@@ -117,7 +117,7 @@ pub fn between(r: Reader, s: Seen) -> Reader
 
 // Between records, with an answer.
 pub fn answered(r: Reader, t: Told) -> Reader
-    ensures { result ≡ answeredWith r t }
+    ensures { result ≡ answered_with r t }
 {
     let mut u = r;
     u.inside = false;
@@ -128,7 +128,7 @@ pub fn answered(r: Reader, t: Told) -> Reader
 
 // Refusal 12 at a place.
 pub fn out_of_turn(r: Reader, place: usize) -> Reader
-    ensures { result ≡ answeredWith r (toldWith 12 place) }
+    ensures { result ≡ answered_with r (told_with 12 place) }
 {
     answered(r, say(12, place))
 }
@@ -138,7 +138,7 @@ pub fn out_of_turn(r: Reader, place: usize) -> Reader
 // In the body of a record whose kind byte stands here.
 fn opened(r: Reader) -> Reader
     requires { r.at < last_offset }
-    ensures { result ≡ openedAt r }
+    ensures { result ≡ opened_at r }
 {
     let mut u = r;
     u.inside = true;
@@ -252,7 +252,7 @@ pub fn taken(r: Reader, b: u8) -> Reader
 // The byte goes to the body, if it has room.
 fn body_read(r: Reader, b: u8) -> Reader
     requires { r.at < last_offset }
-    ensures { result ≡ cond (ltb r.filled (body_size (due_of r.seen))) (taken r b) (answeredWith r (toldWith 12 r.start)) }
+    ensures { result ≡ cond (ltb r.filled (body_size (due_of r.seen))) (taken r b) (answered_with r (told_with 12 r.start)) }
 {
     let s = r.seen;
     if r.filled < records::body_size(records::due(s)) {

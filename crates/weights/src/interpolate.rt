@@ -5,7 +5,7 @@
 ghost use Rattle.std.specs.Prelude.{◌≡◌, ℕ, ◌+◌, ◌-◌, ◌*◌, ◌<◌, ◌≤◌, length, get_or, [], ◌∷◌, ◌++◌};
 ghost use Rattle.numbers.specs.Complex.{no_number};
 ghost use Rattle.lattice.specs.Lattice.{is_wall};
-ghost use Rattle.weights.specs.Interpolate.{up_to, meets as meetsAt, outside as outsideOf, rule_by, rule_of, low_side, high_side, side_places, rule_places, taken_places, coordinate as coordinateAt, low_coordinate, high_coordinate, ratio as ratioOf, ratio_at, side_terms, two_sides, rule_terms, interpolated};
+ghost use Rattle.weights.specs.Interpolate.{up_to, meets as meets_at, outside as outside_of, rule_by, rule_of, low_side, high_side, side_places, rule_places, taken_places, coordinate as coordinate_at, low_coordinate, high_coordinate, ratio as ratio_of, ratio_at, side_terms, two_sides, rule_terms, interpolated};
 ghost use Rattle.weights.specs.Product.{kept_places, kept_terms};
 ghost use Rattle.numbers.specs.Lists.{places_in};
 ghost use Rattle.weights.specs.Tables.{spots_of, spot_list, pulls_of, pull_list, map_in, all_slots};
@@ -72,7 +72,7 @@ fn less_one(h: usize) -> usize
 fn meets(places: &[usize], from: usize, n: usize, p: usize, h: usize) -> bool
     requires n_in_bounds { (from + n ≤ length places.now) × (from + n ≤ all_slots) }
     requires h_le_n { h ≤ n }
-    ensures { result ≡ meetsAt (places_in places.now from n) p h }
+    ensures { result ≡ meets_at (places_in places.now from n) p h }
 {
     if h == 0 {
         return false;
@@ -82,7 +82,7 @@ fn meets(places: &[usize], from: usize, n: usize, p: usize, h: usize) -> bool
 
 // Before the first of n values or past the last.
 fn outside(n: usize, h: usize) -> bool
-    ensures { result ≡ outsideOf n h }
+    ensures { result ≡ outside_of n h }
 {
     h == 0 || n <= h
 }
@@ -246,7 +246,7 @@ pub fn taken(
 fn coordinate(e: Edges, maps: &[f64], b: usize, p: usize) -> C64
     requires maps_len { (length maps.now ≡ 1548) × (b < 6) }
     requires p_bound { p < 258 }
-    ensures { result ≡ coordinateAt e (map_in maps.now b) p }
+    ensures { result ≡ coordinate_at e (map_in maps.now b) p }
 {
     match e {
         Edges::Pml => {
@@ -315,7 +315,7 @@ fn high_coordinate(
 
 // How far p lies from low to high.
 fn ratio(p: C64, low: C64, high: C64) -> C64
-    ensures { result ≡ ratioOf p low high }
+    ensures { result ≡ ratio_of p low high }
 {
     numbers::div(numbers::sub(p, low), numbers::sub(high, low))
 }

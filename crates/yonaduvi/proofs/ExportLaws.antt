@@ -2,13 +2,12 @@
 -- Assumes nothing.
 use Prim.Native.Nat.{ℕ, zero, suc}
 use mathlib.Core.Path.{◌≡◌, refl, sym, ap, ◌∙◌}
-use mathlib.Core.Bool.{Bool, true, false, not, cond, false≢true}
+use mathlib.Core.Bool.{true, false, not, cond, false≢true}
 use mathlib.Core.List.{List, [], ◌∷◌}
 use lib.ListN.{length, replicate}
 use lib.Ieee.{Float}
 use Rattle.numbers.specs.Lists.{laid}
 use Rattle.lattice.specs.Check.{Verdict, accepted, refused, is_sound, verdict_of}
-use Rattle.lattice.specs.Lattice.{FullLattice}
 use Rattle.lattice.specs.declared.check.Checked.{Checked}
 use Rattle.lattice.specs.declared.check.Checked.TheVariants.{Sound, Cells, Scalar, Length, Entry}
 use Rattle.lattice.specs.declared.lattice.Lattice.{Lattice}

@@ -11,7 +11,7 @@ use lib.ListN.{length, get_or, take, drop}
 use lib.Ieee.{Float}
 use Rattle.numbers.specs.Lists.{tabulate, laid}
 use Rattle.numbers.proofs.ListLaws.{laid_at}
-use Rattle.numbers.proofs.TabulateLaws.{is_tabulate, tabulate_agree, length_tabulate}
+use Rattle.numbers.proofs.TabulateLaws.{is_tabulate, length_tabulate}
 use Rattle.lattice.specs.Lattice.{FullLattice}
 use Rattle.store.specs.Handed.{weight_terms, operator_row, numbers_handed, columns_handed, weight_row_of, operator_row_of, CellsOf}
 use Rattle.store.specs.Needed.{cells_on, cells_of}

@@ -5,7 +5,7 @@ ghost use Rattle.numbers.specs.Lists.{laid};
 ghost use Rattle.lattice.specs.Check.{verdict_of};
 ghost use Rattle.store.specs.Steps.{answer_of};
 ghost use Rattle.store.specs.ChangeSteps.{changed_of};
-ghost use Rattle.yonaduvi.specs.Exports.{answered, untouched as untouchedBy, list_left, needs_words};
+ghost use Rattle.yonaduvi.specs.Exports.{answered, untouched as untouched_by, list_left, needs_words};
 
 use lattice::check;
 use lattice::check::Checked;
@@ -63,7 +63,7 @@ pub fn changed(a: Changed, out: &mut [usize])
 
 // Whether an answer leaves the lists as they were: refusals 1 to 4.
 fn untouched(a: Answer) -> bool
-    ensures { result ≡ untouchedBy (answer_of a) }
+    ensures { result ≡ untouched_by (answer_of a) }
 {
     match a {
         Answer::Levels(_) => false,
