@@ -5,7 +5,7 @@
 top=$(cd "$(dirname "${BASH_SOURCE[0]}")/.." && pwd)
 work=$top/target/differential
 driver=$work/target/release/differential
-libs=${OUR_LIBS:-$top/target/staticlib}
+libs=${OUR_LIBS:-$top/crates/yonaduvi/out}
 
 say() { echo "differential: $*" >&2; }
 die() { say "$*"; exit 2; }
@@ -13,7 +13,7 @@ die() { say "$*"; exit 2; }
 # The static library, made of the crates above.
 library() {
     command -v rt >/dev/null || die "no rt"
-    (cd "$top" && rt staticlib yonaduvi) >"$work/staticlib.log" 2>&1 || { cat "$work/staticlib.log"; die "rt staticlib yonaduvi failed"; }
+    (cd "$top/crates/yonaduvi" && rt lib) >"$work/staticlib.log" 2>&1 || { cat "$work/staticlib.log"; die "rt lib in crates/yonaduvi failed"; }
 }
 
 prepare() {

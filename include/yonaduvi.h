@@ -1,4 +1,4 @@
-/* Yonaduvi: the setup of the coarse levels of a curl-curl lattice. The functions of libyonaduvi.a (`rt staticlib yonaduvi`), x86-64 Linux.
+/* Yonaduvi: the setup of the coarse levels of a curl-curl lattice. The functions of libyonaduvi.a (`rt lib` in crates/yonaduvi), x86-64 Linux.
 
    LISTS. A list is a pointer and its length in elements (doubles, words, bytes). The caller owns every list; nothing is kept behind a call and
    nothing is allocated. A pointer must be good for its length, and not null even where the length is 0; a list that is written must not overlap

@@ -43,7 +43,7 @@ pub renew_level-a-requires-clause-five_room : goal.renew_level-a-requires-clause
 renew_level-a-requires-clause-five_room c = room_long c.requires.five_room c.loop-level.invariant.1.1.1.1.0
 
 pub returns-then-a-ne0 : goal.returns-then-a-ne0
-returns-then-a-ne0 c = levels_stop (fixed c.args.starts.now c.args.columns.now c.args.tstarts.now c.args.tcolumns.now c.args.ostarts.now c.args.ocolumns.now) c.args.flags.now c.loop-level.level c.loop-level-test.true c.if-a-ne0.true c.loop-level.invariant.1.1.1.1.1 c.renew_level-a.ensures
+returns-then-a-ne0 c = levels_stop (fixed c.args.starts.now c.args.columns.now c.args.tstarts.now c.args.tcolumns.now c.args.ostarts.now c.args.ocolumns.now) c.args.flags.now c.loop-level.level c.loop-level-test.true (omega arith) c.loop-level.invariant.1.1.1.1.1 c.renew_level-a.ensures
 
 pub next_offsets-o-requires-clause-limits : goal.next_offsets-o-requires-clause-limits
 next_offsets-o-requires-clause-limits c = c.requires.shaped.limits
@@ -81,7 +81,7 @@ loop-level-smaller c = omega (arith, c.loop-level-test.true)
 pub loop-level-preserved : goal.loop-level-preserved
 loop-level-preserved c =
     let z : c.loop-level.level + 1 ≡ suc c.loop-level.level = omega arith in
-    (omega (arith, c.loop-level-test.true), (rw z c.next_offsets-o.ensures, (rw z c.next_standing-w.ensures, (fine_next (full_lattice c.args.l c.args.st.now) c.args.choice c.args.m c.loop-level.level c.loop-level.invariant.1.1.0, ((c.renew_level-a.auto.eps ∙ c.loop-level.invariant.1.1.1.1.0.0, c.renew_level-a.auto.values ∙ c.loop-level.invariant.1.1.1.1.0.1, c.renew_level-a.auto.tvalues ∙ c.loop-level.invariant.1.1.1.1.0.2, c.renew_level-a.auto.ovalues ∙ c.loop-level.invariant.1.1.1.1.0.3, c.renew_level-a.auto.scaling ∙ c.loop-level.invariant.1.1.1.1.0.4), levels_next (fixed c.args.starts.now c.args.columns.now c.args.tstarts.now c.args.tcolumns.now c.args.ostarts.now c.args.ocolumns.now) c.args.flags.now c.loop-level.level c.if-a-ne0.false c.loop-level.invariant.1.1.1.1.1 c.renew_level-a.ensures)))))
+    (omega (arith, c.loop-level-test.true), (rw z c.next_offsets-o.ensures, (rw z c.next_standing-w.ensures, (fine_next (full_lattice c.args.l c.args.st.now) c.args.choice c.args.m c.loop-level.level c.loop-level.invariant.1.1.0, ((c.renew_level-a.auto.eps ∙ c.loop-level.invariant.1.1.1.1.0.0, c.renew_level-a.auto.values ∙ c.loop-level.invariant.1.1.1.1.0.1, c.renew_level-a.auto.tvalues ∙ c.loop-level.invariant.1.1.1.1.0.2, c.renew_level-a.auto.ovalues ∙ c.loop-level.invariant.1.1.1.1.0.3, c.renew_level-a.auto.scaling ∙ c.loop-level.invariant.1.1.1.1.0.4), levels_next (fixed c.args.starts.now c.args.columns.now c.args.tstarts.now c.args.tcolumns.now c.args.ostarts.now c.args.ocolumns.now) c.args.flags.now c.loop-level.level (omega arith) c.loop-level.invariant.1.1.1.1.1 c.renew_level-a.ensures)))))
 
 pub returns : goal.returns
 returns c = levels_end (fixed c.args.starts.now c.args.columns.now c.args.tstarts.now c.args.tcolumns.now c.args.ostarts.now c.args.ocolumns.now) c.args.flags.now c.loop-level.level c.loop-level.invariant.0 c.loop-level-test.false c.loop-level.invariant.1.1.1.1.1
