@@ -119,7 +119,7 @@ let c = cs[q];
     "one-kind": ("yonaduvi/src/input.rt", "if kind == 0.0 {", "if kind != 1.0 {"),
     "three-cells-alone": ("yonaduvi/src/input.rt", "if cells.len() < 3 {", "if cells.len() != 3 {"),
     "other-refusal": ("yonaduvi/src/answers.rt", "Answer::TooMany => put_two(out, 5, 12)", "Answer::TooMany => put_two(out, 5, 11)"),
-    "needs-order": ("yonaduvi/src/answers.rt", "n.terms,\n        n.tstarts,\n        n.terms,", "n.tstarts,\n        n.terms,\n        n.terms,"),
+    "needs-order": ("yonaduvi/src/answers.rt", "n.terms, n.tstarts, n.terms,", "n.tstarts, n.terms, n.terms,"),
     "needs-kept": ("yonaduvi/src/answers.rt", "    lists::zeros(list);\n", ""),
     "counts-early": ("yonaduvi/src/answers.rt", "words[q + 1] = cells[q];", "words[q] = cells[q];"),
     "counts-read-early": ("yonaduvi/src/rows.rt", "word(counts, q + 1)", "word(counts, q)"),
@@ -268,12 +268,11 @@ def plain(crates, name, fault):
     lines, depth = [], 0
     for line in text.split("\n"):
         start = line.strip()
-        if depth > 0 or start.startswith(("requires {", "ensures {")):
+        if depth > 0 or re.match(r"(requires|ensures)( \w+)? \{", start):
             depth += line.count("{") - line.count("}")
-        elif not start.startswith("ghost use"):
+        elif not start.startswith(("ghost use", "#![tactic")):
             lines.append(line)
-    text = "\n".join(lines)
-    return re.sub(r"^pub (struct|enum) ", r"#[derive(Clone, Copy)]\npub \1 ", text, flags=re.M)
+    return "\n".join(lines)
 
 
 def inside(text, crate, above):
