@@ -16,37 +16,37 @@ import sys
 
 # The file, what is found there, what takes its place.
 FAULTS = {
-    "lost-conjugate": ("lattice/src/neighbours.rt", "numbers::conj(p)", "p"),
+    "lost-conjugate": ("lattice/src/neighbours.rt", "p.conj()", "p"),
     "swapped-neighbour": ("lattice/src/curls.rt", "grid::with_component(p, field), along, true)",
                           "grid::with_component(p, field), along, false)"),
     "swapped-axes": ("lattice/src/curls.rt", "behind(l, st, p, b, c, 1.0, 0, columns, values)",
                      "behind(l, st, p, c, b, 1.0, 0, columns, values)"),
-    "wrong-factor": ("lattice/src/stretched.rt", "numbers::real_times(0.5, lattice::half(", "numbers::real_times(0.25, lattice::half("),
+    "wrong-factor": ("lattice/src/stretched.rt", "lattice::half(l, st, axis, p / 2)", "0.5 * lattice::half(l, st, axis, p / 2)"),
     "wrong-node": ("lattice/src/stretched.rt", "(p + 1) / 2", "p / 2"),
-    "lost-sign": ("lattice/src/rows.rt", "numbers::mul(numbers::neg(wh), we)", "numbers::mul(wh, we)"),
-    "grouping": ("lattice/src/rows.rt", "numbers::mul(numbers::mul(w, numbers::get(eps, column)), inverse)",
-                 "numbers::mul(w, numbers::mul(numbers::get(eps, column), inverse))"),
-    "negated-zero": ("numbers/src/lib.rt", "0.0 - r * y.im / n", "-(r * y.im / n)"),
+    "lost-sign": ("lattice/src/rows.rt", "-wh * we", "wh * we"),
+    "grouping": ("lattice/src/rows.rt", "w * numbers::get(eps, column) * inverse",
+                 "w * (numbers::get(eps, column) * inverse)"),
+    "negated-zero": ("numbers/src/lib.rt", "0.0 - self * y.im / n", "-(self * y.im / n)"),
     "strict-bound": ("lattice/src/line.rt", "<= target * target", "< target * target"),
     "one-cell-less": ("lattice/src/line.rt", "n < 4", "n < 3"),
     "one-level-less": ("lattice/src/levels.rt", "for level in 0..12", "for level in 0..11"),
     "wrong-coarsest": ("lattice/src/levels.rt", "edges(t) <= coarsest", "edges(t) < coarsest"),
-    "lost-wall": ("lattice/src/neighbours.rt", "2 != c && on_wall(l, st, p, 2)", "on_wall(l, st, p, 2)"),
-    "wrong-position": ("lattice/src/check.rt", "Checked::Entry(position + n + m)", "Checked::Entry(position + m)"),
-    "wrong-order": ("lattice/src/check.rt", "if bad_length(g.dx) {", "if bad_length(v.k0) {\n        return Checked::Scalar(3);\n    }\n    if bad_length(g.dx) {"),
-    "turned-conjugate": ("numbers/src/transpose.rt", "crate::put(tvalues, tk + at, v);", "crate::put(tvalues, tk + at, crate::conj(v));"),
-    "dropped-given-away": ("weights/src/interpolate.rt", "one_pull(a, numbers::mul(numbers::one_minus(t), behind))", "one_pull(a, behind)"),
-    "lost-inverse": ("weights/src/interpolate.rt", "numbers::inv(p)", "p"),
-    "another-order": ("weights/src/rows.rt", "numbers::mul(numbers::mul(x.weight, y.weight), z.weight)", "numbers::mul(x.weight, numbers::mul(y.weight, z.weight))"),
+    "lost-wall": ("lattice/src/neighbours.rt", "on_other_wall(l, st, p, 2)", "on_wall(l, st, p, 2)"),
+    "wrong-position": ("lattice/src/check.rt", "Refusal::Entry(position + n + m)", "Refusal::Entry(position + m)"),
+    "wrong-order": ("lattice/src/check.rt", "if bad_length(g.dx) {", "if bad_length(v.k0) {\n        return Err(Refusal::Scalar(3));\n    }\n    if bad_length(g.dx) {"),
+    "turned-conjugate": ("numbers/src/transpose.rt", "crate::put(tvalues, tk + at, v);", "crate::put(tvalues, tk + at, v.conj());"),
+    "dropped-given-away": ("weights/src/interpolate.rt", "first: low.map(|to| Share::Low(to))", "first: low.map(|to| if high.is_none() { Share::There(to.at) } else { Share::Low(to) })"),
+    "lost-inverse": ("weights/src/interpolate.rt", "p.inv()", "p"),
+    "another-order": ("weights/src/rows.rt", "x.weight * y.weight * z.weight", "x.weight * (y.weight * z.weight)"),
     "own-places": ("weights/src/tables.rt", "if slot_along(q) {\n        return q % 64;", "if q < 384 {\n        return q % 64;"),
-    "arithmetic-mean": ("weights/src/eps.rt", "numbers::real_over(1.0, numbers::get(eps, from + c))", "numbers::get(eps, from + c)"),
-    "weight-one-left-out": ("weights/src/interpolate.rt", "numbers::mul(t, ahead)", "t"),
+    "arithmetic-mean": ("weights/src/eps.rt", "1.0 / numbers::get(eps, from + c)", "numbers::get(eps, from + c)"),
+    "weight-one-left-out": ("weights/src/interpolate.rt", "Share::High(to) => t * to.phase", "Share::High(_) => t"),
     "wrong-limit": ("lattice/src/check.rt", "4096 < g.nx", "4095 < g.nx"),
-    "operator-inverse": ("lattice/src/neighbours.rt", "numbers::conj(p)", "numbers::inv(p)"),
-    "graddiv-order": ("lattice/src/rows.rt", "numbers::mul(numbers::mul(w, numbers::get(eps, column)), inverse)",
-                      "numbers::mul(numbers::mul(w, inverse), numbers::get(eps, column))"),
+    "operator-inverse": ("lattice/src/neighbours.rt", "p.conj()", "p.inv()"),
+    "graddiv-order": ("lattice/src/rows.rt", "w * numbers::get(eps, column) * inverse",
+                      "w * inverse * numbers::get(eps, column)"),
     "sums-from-zero": ("numbers/src/collect.rt", "columns[p] = c;\n    crate::put(values, p, v);",
-                       "columns[p] = c;\n    crate::put(values, p, crate::add(crate::zero(), v));"),
+                       "columns[p] = c;\n    crate::put(values, p, C64::zero() + v);"),
     "shift-first": ("operators/src/stencil.rt", """\
     let n = unshifted_row(l, st, eps, r, columns, values);
     if l.shift != 0.0 {
@@ -71,37 +71,37 @@ FAULTS = {
     "shift-grouping": ("operators/src/stencil.rt", "l.shift * (l.k0 * l.k0)", "l.shift * l.k0 * l.k0"),
     "fixed-shifted": ("operators/src/stencil.rt", "if !neighbours::fixed(l, st, r) {", "if r < 12288 {"),
     "last-row-finite": ("operators/src/stencil.rt", "finite = finite && row.finite;", "finite = row.finite;"),
-    "two-weights-first": ("operators/src/galerkin.rt", "add_column(numbers::mul(w, v), cs[q], p, starts, columns, values, sums);", """\
+    "two-weights-first": ("operators/src/galerkin.rt", "add_column(w * v, cs[q], p, sums);", """\
 let c = cs[q];
-        for e in p.k + starts[p.s + c]..p.k + starts[p.s + c + 1] {
-            add_term(sums, columns[e], numbers::mul(numbers::mul(w, numbers::get(values, e)), v));
+        for e in p.part.k + p.starts[p.part.s + c]..p.part.k + p.starts[p.part.s + c + 1] {
+            add_term(sums, p.columns[e], numbers::mul(numbers::mul(w, numbers::get(p.values, e)), v));
         }"""),
     "diagonal-everywhere": ("operators/src/galerkin.rt", "if tstarts[ts + c] == tstarts[ts + c + 1] {", "if tstarts[ts + c] <= tstarts[ts + c + 1] {"),
-    "diagonal-zero": ("operators/src/galerkin.rt", "numbers::put(sums, c, numbers::one());", "numbers::put(sums, c, numbers::zero());"),
-    "sums-kept": ("operators/src/galerkin.rt", "numbers::put(sums, columns[k + q], numbers::zero());", ""),
-    "entry-left-out": ("operators/src/base.rt", "return live(bloch, 1, j) && (here || up);", "return live(bloch, 1, j) && here;"),
+    "diagonal-zero": ("operators/src/galerkin.rt", "numbers::put(sums, c, C64::one());", "numbers::put(sums, c, C64::zero());"),
+    "sums-kept": ("operators/src/galerkin.rt", "numbers::put(sums, c, C64::zero());", ""),
+    "entry-left-out": ("operators/src/base.rt", "return live(bloch, false, j) && (here || up);", "return live(bloch, false, j) && here;"),
     "period-left-out": ("operators/src/base.rt", "near || (bloch && i + 1 == n && j == 0)", "near"),
-    "entry-too-many": ("operators/src/base.rt", "return live(bloch, w, i) && here;", "return live(bloch, w, i) && (here || up);"),
+    "entry-too-many": ("operators/src/base.rt", "return live(bloch, w == 0, i) && here;", "return live(bloch, w == 0, i) && (here || up);"),
     "same-for-near": ("operators/src/tables.rt", "ty: word(t, 1, a, b, a == b, y),", "ty: word(t, 1, a, b, false, y),"),
-    "one-weight": ("operators/src/pattern.rt", "for d in 0..n {\n        w = words::mix", "for d in 0..n % 2 {\n        w = words::mix"),
+    "one-weight": ("operators/src/pattern.rt", "&ps[2 * q..2 * q + n]", "&ps[2 * q..2 * q + n % 2]"),
     "fixed-counted": ("operators/src/pattern.rt", "tables::row_count(t, g, fixed, p)", "tables::row_count(t, g, false, p)"),
     "walk-too-short": ("operators/src/averaged.rt", "if place >= at {", "if place + 2 >= at {"),
     "hat-by-difference": ("operators/src/averaged.rt", "1.0 - distance as f64 / width as f64", "(width - distance) as f64 / width as f64"),
     "wall-wraps": ("operators/src/averaged.rt", "let wy = lattice::lattice::is_wall(y);", "let wy = false;"),
-    "grouped-mean": ("operators/src/averaged.rt", "numbers::real_over(w * count as f64, inverse)",
-                     "numbers::real_times(w, numbers::real_over(count as f64, inverse))"),
+    "grouped-mean": ("operators/src/averaged.rt", "w * count as f64 / inverse",
+                     "w * (count as f64 / inverse)"),
     "grouped-step": ("operators/src/rediscretized.rt", "grid::step(g, axis) * cells as f64 / n as f64", "grid::step(g, axis) * (cells as f64 / n as f64)"),
-    "wall-node-once": ("operators/src/rediscretized.rt", "numbers::real_times(2.0, ", "numbers::real_times(1.0, "),
+    "wall-node-once": ("operators/src/rediscretized.rt", "2.0 * (", "1.0 * ("),
     "volume-of-nodes": ("operators/src/volumes.rt", "if axis == p.component {", "if axis != p.component {"),
-    "zero-share": ("operators/src/volumes.rt", "return numbers::one();", "return numbers::zero();"),
+    "zero-share": ("operators/src/volumes.rt", "return C64::one();", "return C64::zero();"),
     "share-without-last": ("operators/src/volumes.rt", "for q in first..last {", "for q in first..last - (last - first) / 2 {"),
-    "inverse-finite": ("operators/src/volumes.rt", "numbers::is_finite(v) && numbers::is_finite(w)\n", "numbers::is_finite(v)\n"),
+    "inverse-finite": ("operators/src/volumes.rt", "v.is_finite() && w.is_finite()\n", "v.is_finite()\n"),
     "operator-part-late": ("store/src/galerkin_levels.rt", "k: q.k + w,", "k: q.k + w + 1,"),
     "averaged-from-first": ("store/src/rediscretized_levels.rt", "        from = to;\n", ""),
     "turned-part-kept": ("store/src/transfers.rt", "ts: o.ts + m + 1,", "ts: o.ts,"),
-    "last-bad-level": ("store/src/lines.rt", "if bad == 0 {", "if bad == 0 || !ok {"),
+    "last-bad-level": ("store/src/lines.rt", "bad.or((!ok).then_some(level))", "(!ok).then_some(level).or(bad)"),
     "full-list-refused": ("store/src/needs.rt", "n.eps <= h.eps / 2;", "n.eps < h.eps / 2;"),
-    "one-list-kept": ("store/src/setup.rt", "    zeros::zero_three(ostarts, ocolumns, ovalues);\n", ""),
+    "one-list-kept": ("store/src/setup.rt", "    ostarts.fill(0);\n    ocolumns.fill(0);\n    ovalues.fill(0.0);\n", ""),
     "finest-stretches": ("store/src/scaling.rt", "volumes::volumes(own, &stretches, scaling, k)", "volumes::volumes(own, st, scaling, k)"),
     "row-behind-the-last": ("store/src/handed.rt", "if n <= row {", "if n < row {"),
     "starts-fall": ("store/src/handed.rt", "if b < a {", "if b + 1 < a {"),
@@ -113,14 +113,14 @@ let c = cs[q];
     "one-level-enough": ("store/src/handed.rt", "levels_there(c, level + 2)", "levels_there(c, level + 1)"),
     "start-too-few": ("store/src/handed.rt", "at += n + 1;", "at += n;"),
     "level-count-less": ("store/src/needed.rt", "levels: m + 1,", "levels: m,"),
-    "ten-levels-counted": ("store/src/needed.rt", "for q in 0..36 {", "for q in 0..30 {"),
+    "ten-levels-counted": ("store/src/needed.rt", "lines.map(|f| f.cells)", "let mut cells = lines.map(|f| f.cells);\n    cells[30..].fill(0);\n    cells"),
     "galerkin-needs": ("store/src/needed.rt", "needs::count(l, st, lines, m, choice)", "needs::count(l, st, lines, m, Choice::Galerkin)"),
-    "one-choice": ("yonaduvi/src/input.rt", "if n == 0 {", "if n != 1 {"),
+    "one-choice": ("store/src/lib.rt", "if n == 0 {", "if n != 1 {"),
     "one-kind": ("yonaduvi/src/input.rt", "if kind == 0.0 {", "if kind != 1.0 {"),
     "three-cells-alone": ("yonaduvi/src/input.rt", "if cells.len() < 3 {", "if cells.len() != 3 {"),
-    "other-refusal": ("yonaduvi/src/answers.rt", "Answer::TooMany => put_two(out, 5, 12)", "Answer::TooMany => put_two(out, 5, 11)"),
+    "other-refusal": ("store/src/told.rt", "Refusal::TooMany => Told::new(5, 12)", "Refusal::TooMany => Told::new(5, 11)"),
     "needs-order": ("yonaduvi/src/answers.rt", "n.terms, n.tstarts, n.terms,", "n.tstarts, n.terms, n.terms,"),
-    "needs-kept": ("yonaduvi/src/answers.rt", "    lists::zeros(list);\n", ""),
+    "needs-kept": ("yonaduvi/src/answers.rt", "_ => list.fill(0),", "_ => {}"),
     "counts-early": ("yonaduvi/src/answers.rt", "words[q + 1] = cells[q];", "words[q] = cells[q];"),
     "counts-read-early": ("yonaduvi/src/rows.rt", "word(counts, q + 1)", "word(counts, q)"),
     "place-in-numbers": ("yonaduvi/src/rows.rt", "put_two(out, k * i,", "put_two(out, i,"),
@@ -128,33 +128,33 @@ let c = cs[q];
     "odd-double-room": ("yonaduvi/src/lib.rt", "let room = values.len() / 2;", "let room = (values.len() + 1) / 2;"),
     "one-turned": ("yonaduvi/src/lib.rt", "turned != 0", "turned == 1"),
     "deeper-levels-left": ("renew/src/parts.rt", "for level in 0..m {", "for level in 0..1 {"),
-    "coarse-permittivities-left": ("reach/src/hits.rt", "let mut at = raise_bits(flags, base, k, &eps);", "let mut at = base + k;"),
-    "averaged-left": ("reach/src/hits.rt", "at = raise_bits(flags, at, only, &averaged);", "at = at + only;"),
-    "forward-rows-left": ("reach/src/hits.rt", "at = raise_bits(flags, at, n, &forward);", "at = at + n;"),
-    "turned-rows-left": ("reach/src/hits.rt", "raise_bits(flags, at, k, &turned)", "at + k"),
-    "shares-left": ("reach/src/hits.rt", "at = raise_bits(flags, at + volumes, only, &turned);", "at = at + volumes + only;"),
-    "sole-rows-left": ("reach/src/hits.rt", "raise_bits(flags, 0, n, &operator)", "n"),
+    "coarse-permittivities-left": ("reach/src/hits.rt", "let mut at = raise_bits(flags, base, k, &h.eps);", "let mut at = base + k;"),
+    "averaged-left": ("reach/src/hits.rt", "at = raise_bits(flags, at, only, &h.averaged);", "at = at + only;"),
+    "forward-rows-left": ("reach/src/hits.rt", "at = raise_bits(flags, at, n, &h.forward);", "at = at + n;"),
+    "turned-rows-left": ("reach/src/hits.rt", "raise_bits(flags, at, k, &h.turned)", "at + k"),
+    "shares-left": ("reach/src/hits.rt", "at = raise_bits(flags, at + volumes, only, &h.turned);", "at = at + volumes + only;"),
+    "sole-rows-left": ("reach/src/hits.rt", "raise_bits(flags, 0, n, &h.operator)", "n"),
     "first-operator-left": ("reach/src/hits.rt", "    flags::lattice_flags(l, st, flags, out);\n", ""),
-    "forward-by-coarse-left": ("reach/src/hits.rt", "    flags::stored_flags(a.forward, n, starts, columns, &eps, &mut forward);\n", ""),
+    "forward-by-coarse-left": ("reach/src/hits.rt", "    flags::stored_flags(a.forward, n, starts, columns, &h.eps, &mut h.forward);\n", ""),
     "operator-by-computed-rows-left": ("reach/src/hits.rt", "        flags::first_flags(l, st, flags, out);\n", ""),
     "operator-by-forward-left": ("reach/src/hits.rt", "    flags::stored_flags(o, n, ostarts, ocolumns, flags, out);\n", ""),
     "operator-by-fine-left": ("reach/src/hits.rt", "let mut leads = h.operator;", "let mut leads = [false; EDGES];"),
-    "rediscretized-operator-left": ("reach/src/hits.rt", "    flags::rediscretized_flags(l, st, lines, m, level, &averaged, &mut operator);\n", ""),
-    "divergence-left": ("operators/src/stencil.rt", "    mark_nodes(l, st, n, &cs, out);\n", "    mark_nodes(l, st, n / 2, &cs, out);\n"),
+    "rediscretized-operator-left": ("reach/src/hits.rt", "    flags::rediscretized_flags(l, st, lines, m, level, &h.averaged, &mut h.operator);\n", ""),
+    "divergence-left": ("operators/src/stencil.rt", "for &q in &cs[..n] {", "for &q in &cs[..n / 2] {"),
     "fixed-row-reached": ("operators/src/stencil.rt", "    if neighbours::fixed(l, st, r) {\n        return;\n    }\n    out[r] = true;",
                           "    out[r] = true;"),
     "beyond-the-reach": ("renew/src/flag.rt", "words::bit(flags[q / 64], q % 64)", "words::bit(flags[q / 64], q % 64) || q % 7 == 0"),
-    "nothing-put-back": ("renew/src/guard.rt", "    if bad == 0 {\n        return 0;\n    }\n", "    if bad < 100 {\n        return bad;\n    }\n"),
+    "nothing-put-back": ("renew/src/guard.rt", "        cursor::put_back(", "        if bad.0 < 100 {\n            return Err(bad);\n        }\n        cursor::put_back("),
     "turned-not-put-back": ("renew/src/cursor.rt", "        tvalues[at] = x;\n", ""),
-    "half-put-back": ("renew/src/cursor.rt", "for k in 0..n {", "for k in 0..n / 2 {"),
+    "half-put-back": ("renew/src/cursor.rt", "for &x in &old[..n] {", "for &x in &old[..n / 2] {"),
     "same-double-saved": ("renew/src/cursor.rt", "at: c.at + 1,", "at: c.at,"),
     "permittivity-not-put-back": ("changes/src/change.rt", "    numbers::put(eps, edge, old);\n", ""),
-    "ten-before-nine": ("changes/src/change.rt", "    if n <= edge {", "    if bad {\n        return Changed::BadValue(edge);\n    }\n    if n <= edge {"),
+    "ten-before-nine": ("changes/src/change.rt", "    if n <= edge {", "    if bad {\n        return Err(Refusal::BadValue(edge));\n    }\n    if n <= edge {"),
     "nine-too-late": ("changes/src/change.rt", "if n <= edge {", "if n < edge {"),
-    "eleven-before-six": ("changes/src/change.rt", "    let a = setup::structure(",
-                          "    if ends.len() > 0 && ends[0] != 0 {\n        return Changed::Differs(0);\n    }\n    let a = setup::structure("),
-    "seven-at-the-last": ("changes/src/change.rt", "Answer::NotFinite(bad - 1)", "Answer::NotFinite(m)"),
-    "ends-not-compared": ("changes/src/compare.rt", "let e = first_ends(l, st, lines, m, ends);", "let e = m + 1;"),
+    "eleven-before-six": ("changes/src/change.rt", "    let n = setup::structure(",
+                          "    if ends.len() > 0 && ends[0] != 0 {\n        return Err(Refusal::Differs(0));\n    }\n    let n = setup::structure("),
+    "seven-at-the-last": ("changes/src/change.rt", "setup::Refusal::NotFinite(level)", "setup::Refusal::NotFinite(m)"),
+    "ends-not-compared": ("changes/src/compare.rt", "let e = first_ends(l, st, lines, m, ends);", "let e = None;"),
     "forward-starts-not-compared": ("changes/src/compare.rt", """\
 0, &mut row);
         if !same_row(starts, s + r, k, columns, o.k + k, &row, count) {
@@ -184,7 +184,7 @@ ps, ns, grid::at(gf, r), 0, &mut row);
 ps, ns, grid::at(gf, r), 0, &mut row);
         if starts[s + r] != k {
 """),
-    "turned-starts-not-compared": ("changes/src/compare.rt", "if tstarts[ts + c + 1] != next[c] {", "if false {"),
+    "turned-starts-not-compared": ("changes/src/compare.rt", "tstarts[ts] == 0 && tstarts[ts + 1..ts + m + 1] == next[..m]", "tstarts[ts] == 0"),
     "turned-columns-not-compared": ("changes/src/compare.rt", "if tcolumns[tk + at] != r {", "if false {"),
     "operator-starts-not-compared": ("changes/src/compare.rt", """\
 r, p, &mut row, 0);
@@ -210,27 +210,28 @@ r, p, &mut row, 0);
 r, p, &mut row, 0);
         if starts[s + r] != k {
 """),
-    "eleven-at-the-coarse": ("changes/src/compare.rt", "            return level;\n", "            return level + 1;\n"),
-    "ends-first": ("changes/src/compare.rt", "lists::lesser(e, lists::lesser(t, o))", "if e <= m {\n        return e;\n    }\n    lists::lesser(t, o)"),
-    "other-change-refusal": ("yonaduvi/src/answers.rt", "put_two(out, 11, level)", "put_two(out, 11, level + 1)"),
+    "eleven-at-the-coarse": ("changes/src/compare.rt", "            return Some(level);\n", "            return Some(level + 1);\n"),
+    "ends-first": ("changes/src/compare.rt", "earlier(e, earlier(t, o))", "e.or(earlier(t, o))"),
+    "other-change-refusal": ("store/src/told.rt", "Told::new(11, level)", "Told::new(11, level + 1)"),
     # of the reader of setup files: their names begin with file-, and damaged files show them
-    "file-cut-off-as-1": ("programs/src/reader.rt", "return say(12, r.start);", "return say(1, 0);"),
-    "file-end-for-kind-byte": ("programs/src/reader.rt", "return say(12, r.start);", "return say(12, r.at);"),
-    "file-last-record-for-length": ("programs/src/reader.rt", "    say(12, r.at)\n", "    say(12, r.start)\n"),
-    "file-behind-the-end": ("programs/src/reader.rt", "    if r.at == usize::MAX {", "    let s = r.seen;\n    if s.stage == 6 {\n        return r;\n    }\n    if r.at == usize::MAX {"),
+    "file-cut-off-as-1": ("programs/src/reader.rt", "Some(o) => Err(Told::new(12, o.start)),", "Some(_) => Err(Told::new(1, 0)),"),
+    "file-end-for-kind-byte": ("programs/src/reader.rt", "Some(o) => Err(Told::new(12, o.start)),", "Some(_) => Err(Told::new(12, r.at)),"),
+    "file-last-record-for-length": ("programs/src/reader.rt", "None => Err(Told::new(12, r.at)),", "None => Err(Told::new(12, r.at.saturating_sub(1))),"),
+    "file-behind-the-end": ("programs/src/reader.rt", "    if r.at == usize::MAX {", "    if r.seen.stage == Stage::Over {\n        return r;\n    }\n    if r.at == usize::MAX {"),
     "file-limit-refused": ("programs/src/reader.rt", "if limit < cells {", "if limit <= cells {"),
     "file-doubles-for-numbers": ("programs/src/reader.rt", "room < 2 * (records::stretch_count(b) + records::edge_count(b))",
                                  "room < records::stretch_count(b) + records::edge_count(b)"),
-    "file-13-before-1": ("programs/src/reader.rt", "    if !check::is_sound(c) {\n",
-                         "    if limit < records::cell_count(b) {\n        return say(13, records::cell_count(b));\n    }\n    if !check::is_sound(c) {\n"),
+    "file-13-before-1": ("programs/src/reader.rt", "    if let Err(c) = check::check_grid(g) {\n",
+                         "    if limit < records::cell_count(b) {\n        return Told::new(13, records::cell_count(b));\n    }\n    if let Err(c) = check::check_grid(g) {\n"),
     "file-coarsest-of-two-bytes": ("programs/src/reader.rt", "bytes::word32(&b, 1)", "bytes::word16(&b, 1)"),
-    "file-edge-of-two-bytes": ("programs/src/reader.rt", "bytes::word32(&b, 0)", "bytes::word16(&b, 0)"),
-    "file-choice-of-two": ("programs/src/feed.rt", "reader::choice_byte(r) > 1", "reader::choice_byte(r) > 2"),
-    "file-refusal-goes-on": ("programs/src/feed.rt", "reader::answered(r, reader::change_told(a))", "reader::between(r, s)"),
-    "file-wall-among-numbers": ("programs/src/records.rt", "    if s.stage < 4 {\n        return 2;", "    if s.stage < 5 {\n        return 2;"),
+    "file-edge-of-two-bytes": ("programs/src/feed.rt", "bytes::word32(&b, 0)", "bytes::word16(&b, 0)"),
+    "file-choice-of-two": ("programs/src/feed.rt", "o.body[0] > 1", "o.body[0] > 2"),
+    "file-refusal-goes-on": ("programs/src/feed.rt", "reader::answered(r, Told::from(a).answer())", "reader::between(r, s)"),
+    "file-wall-among-numbers": ("programs/src/records.rt", "Stage::AxisX | Stage::AxisY | Stage::AxisZ => Some(Kind::Wall),",
+                                "Stage::AxisX | Stage::AxisY | Stage::AxisZ | Stage::Numbers => Some(Kind::Wall),"),
     "file-nodes-for-halves": ("programs/src/records.rt", "cut(held, 2 * x + 2 * y + z, z)", "cut(held, 2 * x + 2 * y, z)"),
-    "file-high-byte-first": ("programs/src/bytes.rt", "wide(b[k]) + 256 * wide(b[k + 1])", "256 * wide(b[k]) + wide(b[k + 1])"),
-    "file-nan-as-one": ("programs/src/bytes.rt", "return 0.0 / 0.0;", "return 1.0;"),
+    "file-high-byte-first": ("programs/src/bytes.rt", "u16::from_le_bytes(", "u16::from_be_bytes("),
+    "file-nan-as-one": ("programs/src/bytes.rt", "num::f64_from_bits_with_nan(bits)", "if f64::from_bits(bits).is_nan() { 1.0 } else { f64::from_bits(bits) }"),
 }
 
 
@@ -260,17 +261,22 @@ def check(crates):
 
 
 def plain(crates, name, fault):
-    """A file with its contracts left out."""
+    """A file with its contracts and what else is for proofs left out."""
     with open(os.path.join(crates, name), encoding="utf-8") as file:
         text = file.read()
     if fault and FAULTS[fault][0] == name:
         text = planted(text, fault)
+    # std's name for what Rust's does, and a derive that Rust has no need of
+    text = text.replace("num::f64_from_bits_with_nan(", "f64::from_bits(").replace("#[derive(Drop)]\n", "")
     lines, depth = [], 0
     for line in text.split("\n"):
         start = line.strip()
-        if depth > 0 or re.match(r"(requires|ensures)( \w+)? \{", start):
+        if depth > 0 or re.match(r"(requires|ensures)( \w+)? \{|ghost (?!use )\w+( =|:) \{", start):
             depth += line.count("{") - line.count("}")
-        elif not start.startswith(("ghost use", "#![tactic")):
+            # a trait's function without a body ends with its last clause
+            if depth == 0 and start.endswith("};") and not start.startswith("ghost") and lines[-1].endswith(")"):
+                lines[-1] += ";"
+        elif not start.startswith(("ghost use", "#![tactic", "#[tactic")):
             lines.append(line)
     return "\n".join(lines)
 

@@ -12,6 +12,7 @@ ghost use Rattle.store.specs.Calls.{change_of};
 ghost use Rattle.store.specs.Phases.{HasLines};
 ghost use Rattle.store.specs.Renewed.{fixed, five, Shaped, FiveRoom};
 ghost use Rattle.store.specs.ChangeSteps.{changed_of, change_to, edit_verdict, EdgeRenewed, changed_behind};
+ghost use Rattle.renew.specs.Codes.{code_of};
 
 use crate::compare;
 use lattice::lattice::Lattice;
@@ -19,42 +20,29 @@ use lattice::line::Line;
 use lattice::{check, grid, levels};
 use numbers::C64;
 use reach::hits;
-use renew::guard;
-use store::change::Changed;
+use renew::{NotFinite, guard};
+use store::change::Refusal;
 use store::needs::Lengths;
-use store::setup::Answer;
 use store::{Choice, setup};
 
-// Whether nothing is refused.
-fn passes(a: Changed) -> bool
-    ensures { result ≡ is_sound (changed_of a) }
-{
-    match a {
-        Changed::Answered(b) => setup::goes_on(b),
-        Changed::NoEdge(_) => false,
-        Changed::BadValue(_) => false,
-        Changed::Differs(_) => false,
-    }
-}
-
 // Refusals 9 and 10.
-fn edit(l: Lattice, edge: usize, value: C64) -> Changed
+fn edit(l: Lattice, edge: usize, value: C64) -> Result<usize, Refusal>
     requires { Limits l.grid }
     ensures { changed_of result ≡ edit_verdict l edge value }
 {
     let n = grid::unknowns(l.grid);
     let bad = check::bad_number(value);
     if n <= edge {
-        return Changed::NoEdge(edge);
+        return Err(Refusal::NoEdge(edge));
     }
     if bad {
-        return Changed::BadValue(edge);
+        return Err(Refusal::BadValue(edge));
     }
-    Changed::Answered(Answer::Levels(0))
+    Ok(0)
 }
 
-// The permittivity of an edge set and the rows that it reaches worked out anew: 0; or 1 + the first level that has a number that is not finite, and every
-// list as it was.
+// The permittivity of an edge set and the rows that it reaches worked out anew; or the first level that has a number that is not finite, and every list as it
+// was.
 fn renew(
     choice: Choice,
     l: Lattice,
@@ -75,7 +63,7 @@ fn renew(
     tvalues: &mut [f64],
     ovalues: &mut [f64],
     scaling: &mut [f64],
-) -> usize
+) -> Result<(), NotFinite>
     requires limits { Limits l.grid }
     requires m_bound { m ≤ 11 }
     requires coarsest_value { depth_of (full_lattice l st.now) coarsest ≡ accepted (suc m) }
@@ -86,7 +74,7 @@ fn renew(
     ensures { EdgeRenewed (full_lattice l st.now) choice m
         (fixed starts.now columns.now tstarts.now tcolumns.now ostarts.now ocolumns.now)
         (change_to edge value)
-        (five eps.old values.old tvalues.old ovalues.old scaling.old) result
+        (five eps.old values.old tvalues.old ovalues.old scaling.old) (code_of result)
         (five eps.new values.new tvalues.new ovalues.new scaling.new) }
 {
     let mut flags = [0u64; 14976];
@@ -96,15 +84,14 @@ fn renew(
     );
     let old = numbers::get(eps, edge);
     numbers::put(eps, edge, value);
-    let bad = guard::renew_or_restore(
+    if let Err(bad) = guard::renew_or_restore(
         choice, l, st, coarsest, lines, m, &flags, starts, columns, tstarts, tcolumns, ostarts,
         ocolumns, eps, values, tvalues, ovalues, scaling,
-    );
-    if bad == 0 {
-        return 0;
+    ) {
+        numbers::put(eps, edge, old);
+        return Err(bad);
     }
-    numbers::put(eps, edge, old);
-    bad
+    Ok(())
 }
 
 // The change behind the checks of its input, of the edge and of the value.
@@ -127,7 +114,7 @@ fn settle(
     ocolumns: &[usize],
     ovalues: &mut [f64],
     scaling: &mut [f64],
-) -> Changed
+) -> Result<usize, Refusal>
     requires limits { Limits l.grid }
     requires value_value { is_sound (edit_verdict l edge value) ≡ true }
     ensures { result_of (changed_of result) (lent ends.now eps.new starts.now columns.now values.new
@@ -153,25 +140,20 @@ fn settle(
         ovalues: ovalues.len(),
         scaling: scaling.len(),
     };
-    let a = setup::structure(choice, l, st, depth, lines, h);
-    if !setup::goes_on(a) {
-        return Changed::Answered(a);
-    }
+    let n = setup::structure(choice, l, st, depth, lines, h)?;
     let m = setup::transfers_of(depth);
-    let d = compare::first_difference(
+    if let Some(level) = compare::first_difference(
         choice, l, st, lines, m, ends, starts, columns, tstarts, tcolumns, ostarts, ocolumns,
-    );
-    if d <= m {
-        return Changed::Differs(d);
+    ) {
+        return Err(Refusal::Differs(level));
     }
-    let bad = renew(
+    match renew(
         choice, l, st, coarsest, lines, m, edge, value, starts, columns, tstarts, tcolumns,
         ostarts, ocolumns, eps, values, tvalues, ovalues, scaling,
-    );
-    if bad == 0 {
-        return Changed::Answered(a);
+    ) {
+        Ok(()) => Ok(n),
+        Err(NotFinite(level)) => Err(Refusal::Setup(setup::Refusal::NotFinite(level))),
     }
-    Changed::Answered(Answer::NotFinite(bad - 1))
 }
 
 // ---- the call of a user
@@ -202,7 +184,7 @@ pub fn change(
     ocolumns: &[usize],
     ovalues: &mut [f64],
     scaling: &mut [f64],
-) -> Changed
+) -> Result<usize, Refusal>
     ensures { result_of (changed_of result) (lent ends.now eps.new starts.now columns.now values.new
         tstarts.now tcolumns.now tvalues.new ostarts.now ocolumns.now ovalues.new scaling.new)
         ≡ change_of (input_of v xn.now xh.now yn.now yh.now zn.now zh.now choice coarsest)
@@ -210,14 +192,8 @@ pub fn change(
         columns.now values.old tstarts.now tcolumns.now tvalues.old ostarts.now
         ocolumns.now ovalues.old scaling.old) (change_to edge value) }
 {
-    let c = check::check_stretches(v, xn, xh, yn, yh, zn, zh);
-    if !check::is_sound(c) {
-        return Changed::Answered(Answer::Refused(c));
-    }
-    let e = edit(v, edge, value);
-    if !passes(e) {
-        return e;
-    }
+    check::check_stretches(v, xn, xh, yn, yh, zn, zh)?;
+    edit(v, edge, value)?;
     let st = lattice::lattice::stretches(v, xn, xh, yn, yh, zn, zh);
     settle(
         choice, v, &st, coarsest, edge, value, ends, eps, starts, columns, values, tstarts,

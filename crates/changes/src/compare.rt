@@ -1,6 +1,6 @@
 // Refusal 11: starts, columns and ends against the lattice's.
 
-ghost use Rattle.std.specs.Prelude.{◌≡◌, ℕ, suc, ◌+◌, ◌*◌, ◌≤◌, ◌<◌, true, ◌&&◌, [], eqb, length, get_or};
+ghost use Rattle.std.specs.Prelude.{◌≡◌, ℕ, suc, ◌+◌, ◌*◌, ◌≤◌, ◌<◌, true, ◌&&◌, [], eqb, length, get_or, min, IfSome, unwrap_or};
 ghost use Rattle.numbers.specs.Lists.{places_in, rows as rows_of};
 ghost use Rattle.lattice.specs.Grid.{Limits, unknowns_of};
 ghost use Rattle.lattice.specs.Lattice.{full_lattice};
@@ -13,10 +13,10 @@ ghost use Rattle.operators.specs.Numbered.{word_count};
 ghost use Rattle.store.specs.Layout.{forward_cols, turned_cols, forward_off, turned_off, operator_off, next_edges, starts_off, stored_starts, ends_off};
 ghost use Rattle.store.specs.Phases.{HasLines};
 ghost use Rattle.store.specs.PhaseSteps.{held_by};
-ghost use Rattle.store.specs.FillSteps.{FirstBad};
 ghost use Rattle.store.specs.Calls.{matches, level_matches};
 ghost use Rattle.store.specs.Renewed.{fixed, five, store_of, FixedRoom};
-ghost use Rattle.store.specs.Compare.{Lowest, rows_match, PartRoom, lines_match, transfer_ok, operator_ok, Gives, Slotted, TurnedBy, term_in, named_in, named_by, Walkable, Begins};
+ghost use Rattle.store.specs.Compare.{rows_match, PartRoom, lines_match, transfer_ok, operator_ok, Gives, Slotted, TurnedBy, term_in, named_in, named_by, Walkable, Begins};
+ghost use Rattle.changes.specs.First.{LowestIn, FirstBadIn};
 
 use lattice::grid::Grid3d;
 use lattice::lattice::Lattice;
@@ -37,12 +37,7 @@ fn same(list: &[usize], k: usize, row: &[usize], n: usize) -> bool
     requires { (k + n ≤ length list.now) × (n ≤ length row.now) }
     ensures { result ≡ matches list.now k (places_in row.now 0 n) }
 {
-    for q in 0..n {
-        if list[k + q] != row[q] {
-            return false;
-        }
-    }
-    true
+    list[k..k + n] == row[..n]
 }
 
 // Whether a row's start stands at place `at` of the starts and its n columns in their list from place k on.
@@ -76,24 +71,23 @@ fn same_line(f: Line, ends: &[usize], k: usize) -> bool
     same(ends, k, &row, f.cells + 1)
 }
 
-// The first level a line of which has other ends; m + 1 where there is none.
-fn first_ends(l: Lattice, st: &[f64], lines: [Line; 36], m: usize, ends: &[usize]) -> usize
+// The first level a line of which has other ends.
+fn first_ends(l: Lattice, st: &[f64], lines: [Line; 36], m: usize, ends: &[usize]) -> Option<usize>
     requires limits { Limits l.grid }
     requires m_bound { m ≤ 11 }
     requires has_lines { HasLines (full_lattice l st.now) m lines }
     requires m_in_bounds { ends_off (full_lattice l st.now) (3 * suc m) ≤ length ends.now }
-    ensures { Lowest (lines_match (full_lattice l st.now) ends.now) (suc m) result }
+    ensures { LowestIn (lines_match (full_lattice l st.now) ends.now) (suc m) result }
 {
     let n = 3 * (m + 1);
     let mut next = 0;
-    for q in 0..n {
-        let f = lines[q];
+    for (q, &f) in lines[..n].iter().enumerate() {
         if !same_line(f, ends, next) {
-            return q / 3;
+            return Some(q / 3);
         }
         next += f.cells + 1;
     }
-    m + 1
+    None
 }
 
 // ---- transfers
@@ -197,8 +191,8 @@ fn same_terms(
     requires count_in_bounds { tk + count ≤ length tcolumns.now }
     ensures { TurnedBy (named_in columns.now k n r) m next.old tcolumns.now tk count result next.new }
 {
-    for q in 0..n {
-        if !same_term(columns[k + q], r, next, tcolumns, tk, count, m) {
+    for &c in &columns[k..k + n] {
+        if !same_term(c, r, next, tcolumns, tk, count, m) {
             return false;
         }
     }
@@ -248,9 +242,7 @@ fn first_places(tstarts: &[usize], ts: usize, m: usize) -> [usize; 12288]
     ensures { (c : ℕ) → c < m → get_or result c 0 ≡ get_or tstarts.now (ts + c) 0 }
 {
     let mut next = [0usize; 12288];
-    for c in 0..m {
-        next[c] = tstarts[ts + c];
-    }
+    next[..m].copy_from_slice(&tstarts[ts..ts + m]);
     next
 }
 
@@ -259,15 +251,7 @@ fn same_begins(next: &[usize], tstarts: &[usize], ts: usize, m: usize) -> bool
     requires { (m ≤ length next.now) × (ts + m < length tstarts.now) }
     ensures { Begins next.now tstarts.now ts m result }
 {
-    if tstarts[ts] != 0 {
-        return false;
-    }
-    for c in 0..m {
-        if tstarts[ts + c + 1] != next[c] {
-            return false;
-        }
-    }
-    true
+    tstarts[ts] == 0 && tstarts[ts + 1..ts + m + 1] == next[..m]
 }
 
 // Whether the turned rows of a transfer stand in two lists; its forward rows stand in two others.
@@ -337,7 +321,7 @@ fn same_transfer(
     )
 }
 
-// The first level whose transfer has other starts or columns; m + 1 where there is none.
+// The first level whose transfer has other starts or columns.
 fn first_transfer(
     l: Lattice,
     st: &[f64],
@@ -347,13 +331,13 @@ fn first_transfer(
     columns: &[usize],
     tstarts: &[usize],
     tcolumns: &[usize],
-) -> usize
+) -> Option<usize>
     requires limits { Limits l.grid }
     requires m_bound { m ≤ 11 }
     requires has_lines { HasLines (full_lattice l st.now) m lines }
     requires m_in_bounds { (starts_off (edges_on (full_lattice l st.now)) m ≤ length starts.now) × (forward_off (full_lattice l st.now) m ≤ length columns.now) }
     requires m_in_bounds_2 { (starts_off (next_edges (full_lattice l st.now)) m ≤ length tstarts.now) × (turned_off (full_lattice l st.now) m ≤ length tcolumns.now) }
-    ensures { Lowest (transfer_ok (full_lattice l st.now) m starts.now columns.now tstarts.now tcolumns.now) (suc m) result }
+    ensures { LowestIn (transfer_ok (full_lattice l st.now) m starts.now columns.now tstarts.now tcolumns.now) (suc m) result }
 {
     let mut o = Part { s: 0, k: 0 };
     let mut t = Part { s: 0, k: 0 };
@@ -361,12 +345,12 @@ fn first_transfer(
         if !same_transfer(
             l, st, lines, m, level, o, starts, columns, t, tstarts, tcolumns,
         ) {
-            return level;
+            return Some(level);
         }
         o = lines::behind(o, lines::level_edges(l, st, lines, m, level), starts);
         t = lines::behind(t, lines::level_edges(l, st, lines, m, level + 1), tstarts);
     }
-    m + 1
+    None
 }
 
 // ---- operators
@@ -454,7 +438,7 @@ fn next_columns(
     }
 }
 
-// 0 where the operator of a sole level 0 has other starts or columns, else 1.
+// Level 0, if it is the only one and its operator has other starts or columns.
 fn sole_operator(
     choice: Choice,
     l: Lattice,
@@ -463,22 +447,22 @@ fn sole_operator(
     m: usize,
     starts: &[usize],
     columns: &[usize],
-) -> usize
+) -> Option<usize>
     requires limits { Limits l.grid }
     requires m_value { m ≡ 0 }
     requires has_lines { HasLines (full_lattice l st.now) m lines }
     requires m_in_bounds { (stored_starts (full_lattice l st.now) m (suc m) ≤ length starts.now) × (operator_off (full_lattice l st.now) choice m (suc m) ≤ length columns.now) }
-    ensures { Lowest (operator_ok (full_lattice l st.now) choice m starts.now columns.now) (suc m) result }
+    ensures { LowestIn (operator_ok (full_lattice l st.now) choice m starts.now columns.now) (suc m) result }
 {
     let u = pattern::base_relations(l, st, l.grid);
     let o = Part { s: 0, k: 0 };
     if same_operator(l, st, lines, m, 0, &u, o, starts, columns) {
-        return 1;
+        return None;
     }
-    0
+    Some(0)
 }
 
-// The first of levels 1 to m whose operator has other starts or columns; m + 1 where there is none.
+// The first of levels 1 to m whose operator has other starts or columns.
 fn coarse_operator(
     choice: Choice,
     l: Lattice,
@@ -487,26 +471,26 @@ fn coarse_operator(
     m: usize,
     starts: &[usize],
     columns: &[usize],
-) -> usize
+) -> Option<usize>
     requires limits { Limits l.grid }
     requires m_nonzero { (0 < m) × (m ≤ 11) }
     requires has_lines { HasLines (full_lattice l st.now) m lines }
     requires m_in_bounds { (stored_starts (full_lattice l st.now) m (suc m) ≤ length starts.now) × (operator_off (full_lattice l st.now) choice m (suc m) ≤ length columns.now) }
-    ensures { Lowest (operator_ok (full_lattice l st.now) choice m starts.now columns.now) (suc m) result }
+    ensures { LowestIn (operator_ok (full_lattice l st.now) choice m starts.now columns.now) (suc m) result }
 {
     let mut u = pattern::base_relations(l, st, l.grid);
     let mut o = Part { s: 0, k: 0 };
     for level in 0..m {
         u = next_columns(choice, l, st, lines, m, level, &u);
         if !same_operator(l, st, lines, m, level + 1, &u, o, starts, columns) {
-            return level + 1;
+            return Some(level + 1);
         }
         o = lines::behind(o, lines::level_edges(l, st, lines, m, level + 1), starts);
     }
-    m + 1
+    None
 }
 
-// The first level whose stored operator has other starts or columns; m + 1 where there is none.
+// The first level whose stored operator has other starts or columns.
 fn first_operator(
     choice: Choice,
     l: Lattice,
@@ -515,12 +499,12 @@ fn first_operator(
     m: usize,
     starts: &[usize],
     columns: &[usize],
-) -> usize
+) -> Option<usize>
     requires limits { Limits l.grid }
     requires m_bound { m ≤ 11 }
     requires has_lines { HasLines (full_lattice l st.now) m lines }
     requires m_in_bounds { (stored_starts (full_lattice l st.now) m (suc m) ≤ length starts.now) × (operator_off (full_lattice l st.now) choice m (suc m) ≤ length columns.now) }
-    ensures { Lowest (operator_ok (full_lattice l st.now) choice m starts.now columns.now) (suc m) result }
+    ensures { LowestIn (operator_ok (full_lattice l st.now) choice m starts.now columns.now) (suc m) result }
 {
     if m == 0 {
         return sole_operator(choice, l, st, lines, m, starts, columns);
@@ -530,7 +514,18 @@ fn first_operator(
 
 // ---- all
 
-// The lowest of the levels 0 to m whose starts, columns or ends differ from the lattice's, a transfer counting as its fine level; m + 1 where none does.
+// The lesser of two levels that may be there.
+fn earlier(a: Option<usize>, b: Option<usize>) -> Option<usize>
+    ensures { (n : ℕ) → IfSome a (λ L. L < n) → IfSome b (λ L. L < n) → IfSome result (λ L. L < n) × (unwrap_or result n ≡ min (unwrap_or a n) (unwrap_or b n)) }
+{
+    match (a, b) {
+        (Some(x), Some(y)) => Some(x.min(y)),
+        (Some(x), None) => Some(x),
+        (None, _) => b,
+    }
+}
+
+// The lowest of the levels 0 to m whose starts, columns or ends differ from the lattice's, a transfer counting as its fine level.
 pub fn first_difference(
     choice: Choice,
     l: Lattice,
@@ -544,18 +539,18 @@ pub fn first_difference(
     tcolumns: &[usize],
     ostarts: &[usize],
     ocolumns: &[usize],
-) -> usize
+) -> Option<usize>
     requires limits { Limits l.grid }
     requires m_bound { m ≤ 11 }
     requires has_lines { HasLines (full_lattice l st.now) m lines }
     requires m_in_bounds { ends_off (full_lattice l st.now) (3 * suc m) ≤ length ends.now }
     requires fixed_room { FixedRoom (full_lattice l st.now) choice m (fixed starts.now columns.now tstarts.now tcolumns.now ostarts.now ocolumns.now) }
-    ensures { FirstBad 11 (level_matches (full_lattice l st.now) choice m (store_of ends.now
+    ensures { FirstBadIn 11 (level_matches (full_lattice l st.now) choice m (store_of ends.now
         (fixed starts.now columns.now tstarts.now tcolumns.now ostarts.now ocolumns.now)
         (five [] [] [] [] []))) (suc m) result }
 {
     let e = first_ends(l, st, lines, m, ends);
     let t = first_transfer(l, st, lines, m, starts, columns, tstarts, tcolumns);
     let o = first_operator(choice, l, st, lines, m, ostarts, ocolumns);
-    lists::lesser(e, lists::lesser(t, o))
+    earlier(e, earlier(t, o))
 }

@@ -16,115 +16,90 @@
 
 #![tactic(auto)]
 
+mod file;
 mod reading;
 mod show;
 mod sweeps;
-mod text;
 
-use show::print;
+use case_lines::words::{Numbers, Words};
+use case_lines::{lines, words};
+use file::File;
+use reading::Lending;
 use std::io;
 use std::io::Read;
-use text::{ARGUMENTS, SIZE};
+use std::ops::Range;
 
-fn title(rt: &impl Print, line: &[u8]) -> io::Result<()> {
-    rt.write_all(line)?;
-    print(rt, "\n")
+// The numbers of a line, 0 where it has none.
+fn numbers<const N: usize>(line: &[u8]) -> [usize; N] {
+    let mut list = [0; N];
+    Numbers::new(line).lay(&mut list);
+    list
 }
 
-// The line `file`.
-fn set_file(line: &[u8], file: &mut [u8], words: &mut [usize]) {
-    let w = text::first(line);
-    let n = text::take_bytes(line, w, 0, file);
-    text::put(words, SIZE, n);
+// From the first number to before the second.
+fn range(line: &[u8]) -> Range<usize> {
+    let [from, to] = numbers::<2>(line);
+    from..to
 }
 
-// The line `put`.
-fn put_bytes(line: &[u8], file: &mut [u8], words: &mut [usize]) {
-    let w = text::next(line, text::first(line));
-    let n = text::take_bytes(line, w, text::whole(w.value), file);
-    if text::at(words, SIZE) < n {
-        text::put(words, SIZE, n);
-    }
-}
-
-// A line whose words are laid down first: where a line sets something, they stay.
-fn numbered(
-    rt: &impl Print,
-    kind: u8,
-    line: &[u8],
-    file: &mut [u8],
-    words: &mut [usize],
-) -> io::Result<()> {
-    let n = text::take(line, text::first(line), ARGUMENTS, words);
-    text::put(words, text::COUNT, n);
-    match kind {
-        b's' => {
-            text::put(words, SIZE, text::at(words, ARGUMENTS));
-            Ok(())
+fn run_line(rt: &impl Print, line: &[u8], file: &mut File, l: &mut Lending) -> io::Result<()> {
+    let lending = *l;
+    match words::first(line) {
+        b"#" => {
+            rt.write_all(line)?;
+            rt.print("\n")?;
         }
-        b'l' => {
-            text::lend(words);
-            Ok(())
+        b"file" => file.size = file.lay(0, Words::new(line)),
+        b"put" => file.put(Words::new(line)),
+        b"size" => [file.size] = numbers::<1>(line),
+        b"lend" => {
+            let [limit, held, places] = numbers::<3>(line);
+            *l = Lending {
+                limit,
+                held,
+                places,
+            };
         }
-        b'c' => sweeps::cuts(rt, file, words),
-        b'k' => sweeps::kinds(rt, file, words),
-        b'b' => sweeps::bits(rt, file, words),
-        b'g' => sweeps::grow(rt, file, words),
-        b'h' => sweeps::hold(rt, file, words),
-        _ => sweeps::read(rt, file, words),
+        b"read" => sweeps::once(rt, file, lending)?,
+        b"cuts" => sweeps::cuts(rt, file, lending, range(line))?,
+        b"kinds" => sweeps::kinds(rt, file, lending, Numbers::new(line))?,
+        b"bits" => sweeps::bits(rt, file, lending, range(line))?,
+        b"grow" => sweeps::lent(
+            rt,
+            file,
+            range(line),
+            |places| Lending { places, ..lending },
+        )?,
+        b"hold" => sweeps::lent(rt, file, range(line), |held| Lending { held, ..lending })?,
+        _ => {}
     }
-}
-
-fn run_line(rt: &impl Print, line: &[u8], file: &mut [u8], words: &mut [usize]) -> io::Result<()> {
-    let kind = text::byte(line, 0);
-    if kind == b'#' {
-        return title(rt, line);
-    }
-    if kind == b'f' {
-        set_file(line, file, words);
-        return Ok(());
-    }
-    if kind == b'p' {
-        put_bytes(line, file, words);
-        return Ok(());
-    }
-    numbered(rt, kind, line, file, words)
-}
-
-// The next line; whether there was one.
-fn next_line(
-    rt: &impl Print,
-    input: &mut impl Read,
-    file: &mut [u8],
-    words: &mut [usize],
-) -> io::Result<bool> {
-    let mut line = [0u8; 8192];
-    let read = text::read_line(input, &mut line)?;
-    if read.ended {
-        return Ok(false);
-    }
-    run_line(rt, text::front(&line, read.bytes), file, words)?;
-    Ok(true)
+    Ok(())
 }
 
 // A line in each turn, to the end of the input.
 fn run(
     rt: &impl Print,
     input: &mut impl Read,
-    file: &mut [u8],
-    words: &mut [usize],
+    file: &mut File,
+    lending: &mut Lending,
 ) -> io::Result<()> {
+    let mut room = [0u8; 8192];
+    // A count: a loop that waits on input needs one.
     for _ in 0..1000000usize {
-        if !next_line(rt, input, file, words)? {
-            return Ok(());
-        }
+        let Some(line) = lines::read_line(input, &mut room)? else {
+            break;
+        };
+        run_line(rt, line, file, lending)?;
     }
     Ok(())
 }
 
 fn main(rt: HostRuntime) -> io::Result<()> {
-    let mut file = [0u8; 8192];
-    let mut words = [0usize; 256];
     let mut input = rt.stdin();
-    run(&rt, &mut input, &mut file, &mut words)
+    let mut lending = Lending {
+        limit: 0,
+        held: 0,
+        places: 0,
+    };
+    run(&rt, &mut input, &mut File::new(), &mut lending)
 }

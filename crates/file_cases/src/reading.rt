@@ -1,178 +1,134 @@
 // One reading of a file, in lists that hold marks before it.
-use crate::text::{HELD, LIMIT, PLACES};
-use crate::{show, text};
-use programs::reader::{Reader, Told};
+use case_lines::lists::{Lists, front_mut};
+use case_lines::shown::{Number, digest};
+use programs::reader::Reader;
 use programs::{feed, reader};
+use std::fmt;
+use store::told::Told;
 
-// What a reading answers, and a digest of what it leaves in the twelve lists.
+// What the line `lend` says: the most cells that are taken, the doubles lent to hold the numbers, the places lent of each list.
 #[derive(Clone, Copy)]
-pub struct Outcome {
+pub struct Lending {
+    pub limit: usize,
+    pub held: usize,
+    pub places: usize,
+}
+
+// What a reading answers: a refusal's number and place, or 0 and the level count.
+#[derive(Clone, Copy, PartialEq, Eq)]
+pub struct Said {
     pub number: usize,
     pub place: usize,
+}
+
+impl From<Result<usize, Told>> for Said {
+    fn from(answer: Result<usize, Told>) -> Said {
+        match answer {
+            Ok(levels) => Said {
+                number: 0,
+                place: levels,
+            },
+            Err(Told { number, place }) => Said { number, place },
+        }
+    }
+}
+
+impl fmt::Display for Said {
+    fn fmt<W: fmt::Write>(&self, f: &mut fmt::Formatter<W>) -> fmt::Result {
+        let Said { number, place } = *self;
+        write!(f, "{number}/{place}")
+    }
+}
+
+// And a digest of what it leaves in the twelve lists.
+#[derive(Clone, Copy, PartialEq, Eq)]
+pub struct Outcome {
+    pub said: Said,
     pub digest: u64,
 }
 
-// The first n places of a list, or all of it.
-fn words_lent(list: &mut [usize], n: usize) -> &mut [usize] {
-    if n <= list.len() {
-        return &mut list[0..n];
+impl Outcome {
+    fn new(answer: Result<usize, Told>, digest: u64) -> Outcome {
+        Outcome {
+            said: Said::from(answer),
+            digest,
+        }
     }
-    list
 }
 
-fn doubles_lent(list: &mut [f64], n: usize) -> &mut [f64] {
-    if n <= list.len() {
-        return &mut list[0..n];
+impl fmt::Display for Outcome {
+    fn fmt<W: fmt::Write>(&self, f: &mut fmt::Formatter<W>) -> fmt::Result {
+        let Said { number, place } = self.said;
+        let digest = self.digest;
+        match number {
+            0 => write!(f, "levels {place} {digest:x}"),
+            _ => write!(f, "refused {number} {place} {digest:x}"),
+        }
     }
-    list
 }
 
-// At most n bytes of a file from an offset on.
-fn part(file: &[u8], at: usize, n: usize) -> &[u8] {
-    if file.len() < at {
-        return &file[0..0];
-    }
-    if file.len() - at < n {
-        return &file[at..];
-    }
-    &file[at..at + n]
-}
-
-// The file in pieces of n bytes.
-fn fed(
-    file: &[u8],
-    n: usize,
-    limit: usize,
-    held: &mut [f64],
-    ends: &mut [usize],
-    eps: &mut [f64],
-    starts: &mut [usize],
-    columns: &mut [usize],
-    values: &mut [f64],
-    tstarts: &mut [usize],
-    tcolumns: &mut [usize],
-    tvalues: &mut [f64],
-    ostarts: &mut [usize],
-    ocolumns: &mut [usize],
-    ovalues: &mut [f64],
-    scaling: &mut [f64],
-) -> Reader {
+// The file in pieces of n bytes, of one where n is 0.
+fn fed(file: &[u8], n: usize, limit: usize, held: &mut [f64], l: &mut Lists<'_>) -> Reader {
     let mut r = reader::fresh();
-    let mut at = 0;
-    for _ in 0..file.len() {
+    for piece in file.chunks(n.max(1)) {
         r = feed::feed(
-            r,
-            limit,
-            part(file, at, n),
-            held,
-            ends,
-            eps,
-            starts,
-            columns,
-            values,
-            tstarts,
-            tcolumns,
-            tvalues,
-            ostarts,
-            ocolumns,
-            ovalues,
-            scaling,
+            r, limit, piece, held, l.ends, l.eps, l.starts, l.columns, l.values, l.tstarts,
+            l.tcolumns, l.tvalues, l.ostarts, l.ocolumns, l.ovalues, l.scaling,
         );
-        at = at.wrapping_add(n);
     }
     r
 }
 
 // A digest of the twelve lists.
-fn left(
-    ends: &[usize],
-    eps: &[f64],
-    starts: &[usize],
-    columns: &[usize],
-    values: &[f64],
-    tstarts: &[usize],
-    tcolumns: &[usize],
-    tvalues: &[f64],
-    ostarts: &[usize],
-    ocolumns: &[usize],
-    ovalues: &[f64],
-    scaling: &[f64],
-) -> u64 {
-    let mut d = show::digest(0, ends);
-    d = show::double_digest(d, eps);
-    d = show::digest(d, starts);
-    d = show::digest(d, columns);
-    d = show::double_digest(d, values);
-    d = show::digest(d, tstarts);
-    d = show::digest(d, tcolumns);
-    d = show::double_digest(d, tvalues);
-    d = show::digest(d, ostarts);
-    d = show::digest(d, ocolumns);
-    d = show::double_digest(d, ovalues);
-    show::double_digest(d, scaling)
+fn left(l: &Lists<'_>) -> u64 {
+    let mut d = digest(0, l.ends);
+    d = digest(d, l.eps);
+    d = digest(d, l.starts);
+    d = digest(d, l.columns);
+    d = digest(d, l.values);
+    d = digest(d, l.tstarts);
+    d = digest(d, l.tcolumns);
+    d = digest(d, l.tvalues);
+    d = digest(d, l.ostarts);
+    d = digest(d, l.ocolumns);
+    d = digest(d, l.ovalues);
+    digest(d, l.scaling)
 }
 
-fn told_and_left(t: Told, digest: u64) -> Outcome {
-    Outcome {
-        number: t.number,
-        place: t.place,
-        digest,
-    }
-}
-
-// The file in pieces of n bytes, with what the line `lend` says.
-pub fn read(file: &[u8], n: usize, words: &[usize]) -> Outcome {
-    let w = show::MARK as usize;
-    let x = show::mark();
-    let mut held_all = [x; 256];
-    let mut ends_all = [w; 768];
-    let mut eps_all = [x; 1536];
-    let mut starts_all = [w; 768];
-    let mut columns_all = [w; 768];
-    let mut values_all = [x; 1536];
-    let mut tstarts_all = [w; 768];
-    let mut tcolumns_all = [w; 768];
-    let mut tvalues_all = [x; 1536];
-    let mut ostarts_all = [w; 768];
-    let mut ocolumns_all = [w; 768];
-    let mut ovalues_all = [x; 1536];
-    let mut scaling_all = [x; 1536];
-    let one = text::at(words, PLACES);
+// The file in pieces of n bytes, with what the line `lend` says. The lists stand in arrays: there is no heap.
+pub fn read(file: &[u8], n: usize, lending: Lending) -> Outcome {
+    let word = usize::mark();
+    let double = f64::mark();
+    let mut held = [double; 256];
+    let mut ends = [word; 768];
+    let mut eps = [double; 1536];
+    let mut starts = [word; 768];
+    let mut columns = [word; 768];
+    let mut values = [double; 1536];
+    let mut tstarts = [word; 768];
+    let mut tcolumns = [word; 768];
+    let mut tvalues = [double; 1536];
+    let mut ostarts = [word; 768];
+    let mut ocolumns = [word; 768];
+    let mut ovalues = [double; 1536];
+    let mut scaling = [double; 1536];
+    let one = lending.places;
     let two = one.wrapping_add(one);
-    let held = doubles_lent(&mut held_all, text::at(words, HELD));
-    let ends = words_lent(&mut ends_all, one);
-    let eps = doubles_lent(&mut eps_all, two);
-    let starts = words_lent(&mut starts_all, one);
-    let columns = words_lent(&mut columns_all, one);
-    let values = doubles_lent(&mut values_all, two);
-    let tstarts = words_lent(&mut tstarts_all, one);
-    let tcolumns = words_lent(&mut tcolumns_all, one);
-    let tvalues = doubles_lent(&mut tvalues_all, two);
-    let ostarts = words_lent(&mut ostarts_all, one);
-    let ocolumns = words_lent(&mut ocolumns_all, one);
-    let ovalues = doubles_lent(&mut ovalues_all, two);
-    let scaling = doubles_lent(&mut scaling_all, two);
-    let r = fed(
-        file,
-        n,
-        text::at(words, LIMIT),
-        held,
-        ends,
-        eps,
-        starts,
-        columns,
-        values,
-        tstarts,
-        tcolumns,
-        tvalues,
-        ostarts,
-        ocolumns,
-        ovalues,
-        scaling,
-    );
-    let digest = left(
-        ends, eps, starts, columns, values, tstarts, tcolumns, tvalues, ostarts, ocolumns, ovalues,
-        scaling,
-    );
-    told_and_left(reader::finish(r), digest)
+    let mut l = Lists {
+        ends: front_mut(&mut ends, one),
+        eps: front_mut(&mut eps, two),
+        starts: front_mut(&mut starts, one),
+        columns: front_mut(&mut columns, one),
+        values: front_mut(&mut values, two),
+        tstarts: front_mut(&mut tstarts, one),
+        tcolumns: front_mut(&mut tcolumns, one),
+        tvalues: front_mut(&mut tvalues, two),
+        ostarts: front_mut(&mut ostarts, one),
+        ocolumns: front_mut(&mut ocolumns, one),
+        ovalues: front_mut(&mut ovalues, two),
+        scaling: front_mut(&mut scaling, two),
+    };
+    let held = front_mut(&mut held, lending.held);
+    let r = fed(file, n, lending.limit, held, &mut l);
+    Outcome::new(reader::finish(r), left(&l))
 }

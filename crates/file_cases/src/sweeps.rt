@@ -1,132 +1,105 @@
-// Readings of the file that stands in the words: one, or many with something altered in each.
-use crate::show::Run;
-use crate::text::{ARGUMENTS, COUNT, HELD, PLACES, SIZE};
-use crate::{reading, show, text};
+// Readings of a file: one, or many with something altered in each.
+
+ghost use Rattle.std.specs.Iterator.{IsFinite};
+
+use crate::file::File;
+use crate::reading::{Lending, read};
+use crate::show::Answers;
+use case_lines::lists::{front, put};
+use case_lines::words::Numbers;
 use std::io;
+use std::ops::Range;
 
 // The bytes of a piece where a reading needs no smaller ones.
 const PIECE: usize = 4096;
 
-fn from(words: &[usize]) -> usize {
-    text::at(words, ARGUMENTS)
-}
-
-fn to(words: &[usize]) -> usize {
-    text::at(words, ARGUMENTS + 1)
-}
-
-// One more reading of the first n bytes.
-fn more(rt: &impl Print, r: Run, file: &[u8], n: usize, words: &[usize]) -> io::Result<Run> {
-    show::longer(rt, r, reading::read(text::front(file, n), PIECE, words))
-}
-
 // The line `read`.
-pub fn read(rt: &impl Print, all: &[u8], words: &[usize]) -> io::Result<()> {
-    let file = text::front(all, text::at(words, SIZE));
-    let a = reading::read(file, 1, words);
-    let b = reading::read(file, 7, words);
-    let c = reading::read(file, PIECE, words);
-    show::answer(rt, a)?;
-    if !show::same(a, b) {
-        show::print(rt, "in pieces of 7 bytes ")?;
-        show::answer(rt, b)?;
+pub fn once(rt: &impl Print, file: &File, lending: Lending) -> io::Result<()> {
+    let a = read(file.whole(), 1, lending);
+    let b = read(file.whole(), 7, lending);
+    let c = read(file.whole(), PIECE, lending);
+    println!(rt; "{a}")?;
+    if b != a {
+        println!(rt; "in pieces of 7 bytes {b}")?;
     }
-    if !show::same(a, c) {
-        show::print(rt, "in pieces of 4096 bytes ")?;
-        show::answer(rt, c)?;
+    if c != a {
+        println!(rt; "in pieces of 4096 bytes {c}")?;
     }
     Ok(())
 }
 
-// The line `cuts`.
-pub fn cuts(rt: &impl Print, file: &[u8], words: &[usize]) -> io::Result<()> {
-    let mut r = show::no_run();
-    for n in from(words)..to(words) {
-        r = more(rt, r, file, n, words)?;
+// The line `cuts`: the first bytes, as many as each number says.
+pub fn cuts(rt: &impl Print, file: &File, lending: Lending, sizes: Range<usize>) -> io::Result<()> {
+    let mut answers = Answers::new();
+    for n in sizes {
+        answers.push(rt, read(front(&file.bytes, n), PIECE, lending))?;
     }
-    show::end(rt, r)
+    answers.end(rt)
 }
 
-// Each byte at an offset; then what stood there again.
-fn kinds_at(
+// The line `grow` or `hold`: with what is lent for each number.
+pub fn lent<F: Fn(usize) -> Lending>(
     rt: &impl Print,
-    before: Run,
-    file: &mut [u8],
-    at: usize,
-    words: &[usize],
-) -> io::Result<Run> {
-    let old = text::byte(file, at);
-    let n = text::at(words, SIZE);
-    let mut r = before;
-    let mut b = 0u8;
-    for _ in 0..256usize {
-        text::put_byte(file, at, b);
-        r = more(rt, r, file, n, words)?;
-        b = b.wrapping_add(1);
+    file: &File,
+    numbers: Range<usize>,
+    lending: F,
+) -> io::Result<()>
+    requires { F.IsAlwaysCallable lending }
+{
+    let mut answers = Answers::new();
+    for n in numbers {
+        answers.push(rt, read(file.whole(), PIECE, lending(n)))?;
     }
-    text::put_byte(file, at, old);
-    Ok(r)
+    answers.end(rt)
 }
 
-// The line `kinds`.
-pub fn kinds(rt: &impl Print, file: &mut [u8], words: &[usize]) -> io::Result<()> {
-    let mut r = show::no_run();
-    for k in 0..text::at(words, COUNT) {
-        let at = text::at(words, ARGUMENTS.wrapping_add(k));
-        r = kinds_at(rt, r, file, at, words)?;
-    }
-    show::end(rt, r)
-}
-
-// Each bit of a byte turned; then what stood there again.
-fn bits_at(
+// Each of some bytes at a place; then what stood there again.
+fn altered<I: Iterator<Item = u8>>(
     rt: &impl Print,
-    before: Run,
-    file: &mut [u8],
+    answers: &mut Answers,
+    file: &mut File,
+    lending: Lending,
     at: usize,
-    words: &[usize],
-) -> io::Result<Run> {
-    let old = text::byte(file, at);
-    let n = text::at(words, SIZE);
-    let mut r = before;
-    let mut bit = 1u8;
-    for _ in 0..8usize {
-        text::put_byte(file, at, old ^ bit);
-        r = more(rt, r, file, n, words)?;
-        bit = bit << 1;
+    bytes: I,
+) -> io::Result<()>
+    requires can { I.can_next bytes }
+    requires ends { IsFinite (I.remaining bytes) }
+{
+    let old = file.byte(at);
+    for b in bytes {
+        put(&mut file.bytes, at, b);
+        answers.push(rt, read(file.whole(), PIECE, lending))?;
     }
-    text::put_byte(file, at, old);
-    Ok(r)
+    put(&mut file.bytes, at, old);
+    Ok(())
 }
 
-// The line `bits`.
-pub fn bits(rt: &impl Print, file: &mut [u8], words: &[usize]) -> io::Result<()> {
-    let mut r = show::no_run();
-    for at in from(words)..to(words) {
-        r = bits_at(rt, r, file, at, words)?;
+// The line `kinds`: each byte at each place.
+pub fn kinds(
+    rt: &impl Print,
+    file: &mut File,
+    lending: Lending,
+    places: Numbers<'_>,
+) -> io::Result<()> {
+    let mut answers = Answers::new();
+    for at in places {
+        altered(rt, &mut answers, file, lending, at as usize, 0..=u8::MAX)?;
     }
-    show::end(rt, r)
+    answers.end(rt)
 }
 
-// Readings with word k of what was lent set to each number of the line; then it is as before.
-fn lent(rt: &impl Print, file: &[u8], words: &mut [usize], k: usize) -> io::Result<()> {
-    let old = text::at(words, k);
-    let n = text::at(words, SIZE);
-    let mut r = show::no_run();
-    for v in from(words)..to(words) {
-        text::put(words, k, v);
-        r = more(rt, r, file, n, words)?;
+// The line `bits`: each bit turned of the byte at each place.
+pub fn bits(
+    rt: &impl Print,
+    file: &mut File,
+    lending: Lending,
+    places: Range<usize>,
+) -> io::Result<()> {
+    let mut answers = Answers::new();
+    for at in places {
+        let old = file.byte(at);
+        let turned = (0..8u8).map(|k| old ^ (1 << k));
+        altered(rt, &mut answers, file, lending, at, turned)?;
     }
-    text::put(words, k, old);
-    show::end(rt, r)
-}
-
-// The line `grow`.
-pub fn grow(rt: &impl Print, file: &[u8], words: &mut [usize]) -> io::Result<()> {
-    lent(rt, file, words, PLACES)
-}
-
-// The line `hold`.
-pub fn hold(rt: &impl Print, file: &[u8], words: &mut [usize]) -> io::Result<()> {
-    lent(rt, file, words, HELD)
+    answers.end(rt)
 }

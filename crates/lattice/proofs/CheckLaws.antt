@@ -16,11 +16,12 @@ use Rattle.numbers.specs.Complex.{finite_double}
 use Rattle.numbers.specs.Places.{number_at}
 use Rattle.lattice.specs.Grid.{Limits, unknowns_of}
 use Rattle.lattice.specs.Lattice.{Lengths}
-use Rattle.lattice.specs.Check.{Verdict, accepted, refused, grid_refused, scalar_refused, length_refused, entry_refused, verdict_of, is_sound, and_then, bad_cells, check_grid, bad_length, bad_phase, check_scalars, bad_number, Given, given, stretches, check_lengths, first_bad, check_entries, check_all, check_of, check_stretches}
+use Rattle.lattice.specs.Check.{Verdict, accepted, refused, grid_refused, scalar_refused, length_refused, entry_refused, refusal_of, verdict_of, is_sound, and_then, bad_cells, check_grid, bad_length, bad_phase, check_scalars, bad_number, Given, given, stretches, check_lengths, first_bad, check_entries, check_all, check_of, check_stretches}
 use Rattle.lattice.specs.declared.grid.Grid3d.{Grid3d}
 use Rattle.lattice.specs.declared.lattice.Lattice.{Lattice}
-use Rattle.lattice.specs.declared.check.Checked.{Checked}
-use Rattle.lattice.specs.declared.check.Checked.TheVariants.{Sound, Cells, Scalar, Length, Entry}
+use Rattle.lattice.specs.declared.check.Refusal.{Refusal}
+use Rattle.lattice.specs.declared.check.Refusal.TheVariants.{Cells, Scalar, Length, Entry}
+use Rattle.std.specs.Prelude.{⊤, Result, Ok, Err}
 
 -- ---- a test or a second one
 
@@ -54,33 +55,49 @@ and_assoc : (c d e : Verdict) → and_then (and_then c d) e ≡ and_then c (and_
 and_assoc (accepted n) d e = refl
 and_assoc (refused number place) d e = refl
 
--- in code, where the answer a means what the check x says and r whether it is sound: a refusal is handed on, and the next check decides
-module _ (a : Checked) {r : Bool} {x : Verdict} (e : verdict_of a ≡ x) (p : r ≡ is_sound (verdict_of a)) where
-  pub told : {b : Bool} → r ≡ b → is_sound x ≡ b
-  told q = ap is_sound (sym e) ∙ (sym p ∙ q)
+-- no check is asked behind a refusal
+pub refused_on : (f : Refusal) (d : Verdict) → and_then (refusal_of f) d ≡ refusal_of f
+refused_on (Cells place) d = refl
+refused_on (Scalar place) d = refl
+refused_on (Length place) d = refl
+refused_on (Entry place) d = refl
 
-  pub hands_on : (d : Verdict) → r ≡ false → and_then x d ≡ verdict_of a
-  hands_on d q = and_refused x d (told q) ∙ sym e
+pub refused_unsound : (f : Refusal) → is_sound (refusal_of f) ≡ false
+refused_unsound (Cells place) = refl
+refused_unsound (Scalar place) = refl
+refused_unsound (Length place) = refl
+refused_unsound (Entry place) = refl
 
-  pub goes_on : (d : Verdict) → r ≡ true → and_then x d ≡ d
-  goes_on d q = and_sound x d (told q)
+-- in code, where a check's answer means x: a refusal is handed on, and else the next check decides
+module _ {x : Verdict} where
+  pub told : accepted 0 ≡ x → is_sound x ≡ true
+  told e = ap is_sound (sym e)
+
+  pub hands_on : (d : Verdict) (f : Refusal) → refusal_of f ≡ x → refusal_of f ≡ and_then x d
+  hands_on d f e = sym (refused_on f d) ∙ ap (λ v. and_then v d) e
+
+  pub goes_on : (d : Verdict) → accepted 0 ≡ x → and_then x d ≡ d
+  goes_on d e = and_sound x d (told e)
 
 -- ---- an answer is known by what it means
 
--- the answer that means a verdict
-abbrev pub checked_of : Verdict → Checked
-checked_of (accepted n) = Sound
-checked_of (refused number place) =
+-- the refusal of a number and a place, and the answer that means a verdict
+abbrev pub refusal_in : ℕ → ℕ → Refusal
+refusal_in number place =
     cond (eqb number 1) (Cells place) (cond (eqb number 2) (Scalar place) (cond (eqb number 3) (Length place) (Entry place)))
 
-checked_back : (c : Checked) → checked_of (verdict_of c) ≡ c
-checked_back Sound = refl
-checked_back (Cells place) = refl
-checked_back (Scalar place) = refl
-checked_back (Length place) = refl
-checked_back (Entry place) = refl
+abbrev pub checked_of : Verdict → Result ⊤ Refusal
+checked_of (accepted n) = Ok tt
+checked_of (refused number place) = Err (refusal_in number place)
 
-pub verdict_of_one : (c d : Checked) → verdict_of c ≡ verdict_of d → c ≡ d
+checked_back : (c : Result ⊤ Refusal) → checked_of (verdict_of c) ≡ c
+checked_back (Ok u) = refl
+checked_back (Err (Cells place)) = refl
+checked_back (Err (Scalar place)) = refl
+checked_back (Err (Length place)) = refl
+checked_back (Err (Entry place)) = refl
+
+pub verdict_of_one : (c d : Result ⊤ Refusal) → verdict_of c ≡ verdict_of d → c ≡ d
 verdict_of_one c d e = sym (checked_back c) ∙ (ap checked_of e ∙ checked_back d)
 
 -- ---- the grid

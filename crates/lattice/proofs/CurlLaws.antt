@@ -15,7 +15,7 @@ use Rattle.numbers.specs.Terms.{columns_of}
 use Rattle.numbers.proofs.Equations.{columns_of_nil, columns_of_cons}
 use Rattle.lattice.specs.declared.grid.Grid3d.{Grid3d}
 use Rattle.lattice.specs.declared.grid.Position.{Position}
-use Rattle.lattice.specs.declared.neighbours.Arrival.TheVariants.{To}
+use Rattle.lattice.specs.Neighbours.{to_place}
 use Rattle.lattice.specs.Grid.{axis3, cells_of, unknowns_of, next_axis, last_axis, place_on, moved_to, with_component, index_of, at_of}
 use Rattle.lattice.specs.Lattice.{edges_of, FullLattice}
 use Rattle.lattice.specs.Line.{place_of}
@@ -68,7 +68,7 @@ fixed_kinds s p = rw (edges_kinds s 0, edges_kinds s 1, edges_kinds s 2)
 
 -- ---- the column of one term
 
-pub to_column : (c : ℕ) (v w : C64) → columns_of (term_to (To c v) w) ≡ c ∷ []
+pub to_column : (c : ℕ) (v w : C64) → columns_of (term_to (to_place c v) w) ≡ c ∷ []
 to_column c v w = simp (columns_of_cons, columns_of_nil)
 
 pub here_column : (l : FullLattice) (p : Position) (c : ℕ) (w : C64) → columns_of (term_here l p c w) ≡ index_of l.grid (with_component p c) ∷ []

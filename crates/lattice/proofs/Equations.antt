@@ -24,7 +24,7 @@ use Rattle.lattice.specs.declared.grid.Grid3d.{Grid3d}
 use Rattle.lattice.specs.declared.grid.Position.{Position}
 use Rattle.lattice.specs.declared.lattice.Edges.{Edges}
 use Rattle.lattice.specs.declared.lattice.Lattice.{Lattice}
-use Rattle.lattice.specs.declared.neighbours.Arrival.TheVariants.{To}
+use Rattle.lattice.specs.Neighbours.{to_place}
 
 -- ---- Curls
 
@@ -243,8 +243,8 @@ place_of_is es m along = refl
 -- ---- Neighbours
 
 pub shifted_is : (e : Edges) (n : ℕ) (m : ℕ) (up : Bool) → shifted e n m up ≡ cond up
-    (cond (ltb (m + 1) n) (To (m + 1) one_number) (past_high e))
-    (cond (eqb m 0) (past_low e n) (To (m - 1) one_number))
+    (cond (ltb (m + 1) n) (to_place (m + 1) one_number) (past_high e))
+    (cond (eqb m 0) (past_low e n) (to_place (m - 1) one_number))
 unfolding shifted
 shifted_is e n m up = refl
 

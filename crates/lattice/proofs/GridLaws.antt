@@ -18,7 +18,7 @@ use native.Mathlib.Nat.{
   mul-add-mod_self_right,
 }
 use native.Mathlib.Omega.{arith}
-use mathlib.Core.Path.{◌≡◌, refl, ◌∙◌}
+use mathlib.Core.Path.{◌≡◌, refl, ◌∙◌, ap}
 use mathlib.Core.Bool.{Bool, true, false, cond}
 use borrow.Author.Tests.{ltb-true, eq-eqb, ne_eqb}
 use lib.Dec.{eqb, ltb}
@@ -46,7 +46,8 @@ use Rattle.lattice.specs.declared.grid.Position.{Position}
 use Rattle.lattice.specs.declared.lattice.Edges.{Edges}
 use Rattle.lattice.specs.declared.lattice.Edges.TheVariants.{Pml, Bloch}
 use Rattle.lattice.specs.declared.neighbours.Arrival.{Arrival}
-use Rattle.lattice.specs.declared.neighbours.Arrival.TheVariants.{To, Beyond}
+use Rattle.std.specs.Prelude.{None, Some, Option}
+use Rattle.lattice.specs.Neighbours.{to_place}
 
 -- ---- by the axis
 
@@ -66,6 +67,9 @@ axis_both R a {x} {y} {z} {u} {v} {w} p q r = go (eqb a 0) (eqb a 1)
 
 pub axis_each : {A : Type 0} (P : A → Type 0) (a : ℕ) {x y z : A} → P x → P y → P z → P (axis3 a x y z)
 axis_each {A} P a {x} {y} {z} = axis_both {B = A} (λ b c. P b) a {u = x} {v = y} {w = z}
+
+pub axis_of : {A B : Type 0} (f : A → B) (a : ℕ) (x y z : A) → f (axis3 a x y z) ≡ axis3 a (f x) (f y) (f z)
+axis_of f a x y z = axis_both (λ v w. f v ≡ w) a {x = x} {y = y} {z = z} refl refl refl
 
 module _ {A : Type 0} (a : ℕ) (x y z : A) where
   pub axis_first : a ≡ 0 → x ≡ axis3 a x y z
@@ -102,6 +106,9 @@ pub place_inside : {g : Grid3d} {p : Position} → Inside g p → (a : ℕ) → 
 unfolding place_on n_of
 place_inside h a = axis_both (λ m n. m < n) a h.i_in h.j_in h.k_in
 
+pub place_low : {g : Grid3d} {p : Position} → Limits g → Inside g p → (a : ℕ) → place_on p a < 64
+place_low h i a = omega (arith, place_inside i a, n_most h a)
+
 pub moved_inside : {g : Grid3d} {p : Position} → Inside g p → (a m : ℕ) → m < n_of g a → Inside g (moved_to p a m)
 unfolding moved_to n_of
 moved_inside {g} h a m =
@@ -134,9 +141,6 @@ cells_most h = h.total
 pub unknowns_most : {g : Grid3d} → Limits g → unknowns_of g ≤ 12288
 unfolding unknowns_of
 unknowns_most h = omega (arith, cells_most h)
-
-pub plane_most : {g : Grid3d} → Limits g → g.nx * g.ny ≤ 4096
-plane_most h = mul-le-mul h.x_most h.y_most
 
 pub plane_some : {g : Grid3d} → Limits g → 0 < g.nx * g.ny
 plane_some h = mul-pos h.x_some h.y_some
@@ -174,9 +178,6 @@ index_below {g} {p} h f = rw (index_parts f) (part_below p.component (cells_of g
 pub line_most : {g : Grid3d} {p : Position} → Limits g → Inside g p → p.k * g.ny + p.j < 4096
 line_most h f = omega (arith, line_below f, mul-le-mul h.z_most h.y_most)
 
-pub place_most : {g : Grid3d} {p : Position} → Limits g → Inside g p → place_no g p < 4096
-place_most h f = omega (arith, place_below f, cells_most h)
-
 pub index_most : {g : Grid3d} {p : Position} → Limits g → Inside g p → p.component * cells_of g + place_no g p < 12288
 index_most h f = omega (arith, index_below h f, index_parts f, unknowns_most h)
 
@@ -213,34 +214,40 @@ index_at {g} h r f =
 
 -- ---- neighbours
 
+-- two ways to one place
+pub same_place : {j k : ℕ} {v w : C64} → to_place j v ≡ to_place k w → j ≡ k
+same_place {j} {k} {v} {w} e =
+    let z : ◌≡◌ {A = Arrival} (record { at = j; phase = v }) (record { at = k; phase = w }) = cc in
+    ap (λ (s : Arrival). s.at) z
+
 -- a step along an axis of n places ends at one of them
-pub shift_below : (e : Edges) (n m : ℕ) (up : Bool) (k : ℕ) (w : C64) → m < n → shifted e n m up ≡ To k w → k < n
+pub shift_below : (e : Edges) (n m : ℕ) (up : Bool) (k : ℕ) (w : C64) → m < n → shifted e n m up ≡ to_place k w → k < n
 unfolding shifted
 shift_below e n m true k w h q = go (ltb (m + 1) n) e refl q
   where
-    go : (b : Bool) (e : Edges) → ltb (m + 1) n ≡ b → cond b (To (m + 1) one_number) (past_high e) ≡ To k w → k < n
-    go true e f q = let z : m + 1 ≡ k = cc in omega (arith, ltb-true (m + 1) n f)
+    go : (b : Bool) (e : Edges) → ltb (m + 1) n ≡ b → cond b (to_place (m + 1) one_number) (past_high e) ≡ to_place k w → k < n
+    go true e f q = let z : m + 1 ≡ k = same_place q in omega (arith, ltb-true (m + 1) n f)
     go false Pml f q = let z : ◌≡◌ {A = ℕ} 0 1 = cc in omega arith
-    go false (Bloch p) f q = let z : 0 ≡ k = cc in omega arith
+    go false (Bloch p) f q = let z : 0 ≡ k = same_place q in omega arith
 shift_below e n m false k w h q = go (eqb m 0) e q
   where
-    go : (b : Bool) (e : Edges) → cond b (past_low e n) (To (m - 1) one_number) ≡ To k w → k < n
+    go : (b : Bool) (e : Edges) → cond b (past_low e n) (to_place (m - 1) one_number) ≡ to_place k w → k < n
     go true Pml q = let z : ◌≡◌ {A = ℕ} 0 1 = cc in omega arith
-    go true (Bloch p) q = let z : n - 1 ≡ k = cc in omega arith
-    go false e q = let z : m - 1 ≡ k = cc in omega arith
+    go true (Bloch p) q = let z : n - 1 ≡ k = same_place q in omega arith
+    go false e q = let z : m - 1 ≡ k = same_place q in omega arith
 
 pub neighbour_below : (l : FullLattice) (p : Position) (a : ℕ) (up : Bool) (c : ℕ) (w : C64)
     → Limits l.grid
     → Inside l.grid p
-    → neighbour_of l p a up ≡ To c w
+    → neighbour_of l p a up ≡ to_place c w
     → c < unknowns_of l.grid
 unfolding neighbour_of
 neighbour_below l p a up c w h f e =
     go (shifted (edges_of l a) (n_of l.grid a) (place_on p a) up)
     (λ k v. shift_below (edges_of l a) (n_of l.grid a) (place_on p a) up k v (place_inside f a)) e
   where
-    go : (s : Arrival) → ((k : ℕ) (v : C64) → s ≡ To k v → k < n_of l.grid a) → arrived l p a s ≡ To c w → c < unknowns_of l.grid
-    go Beyond b q = let z : ◌≡◌ {A = ℕ} 0 1 = cc in omega arith
-    go (To m v) b q =
-        let z : index_of l.grid (moved_to p a m) ≡ c = cc in
-        rw z at (index_below h (moved_inside f a m (b m v refl)))
+    go : (s : Option Arrival) → ((k : ℕ) (v : C64) → s ≡ to_place k v → k < n_of l.grid a) → arrived l p a s ≡ to_place c w → c < unknowns_of l.grid
+    go None b q = let z : ◌≡◌ {A = ℕ} 0 1 = cc in omega arith
+    go (Some s) b q =
+        let z : index_of l.grid (moved_to p a s.at) ≡ c = same_place q in
+        rw z at (index_below h (moved_inside f a s.at (b s.at s.phase refl)))

@@ -1,58 +1,31 @@
 -- The lists of a lattice record: each place of the stretches, by the axis that it belongs to.
 -- Assumes nothing.
-use Prim.Native.Nat.{ℕ, ◌+◌, ◌*◌, ◌/◌, ◌%◌, ◌<◌, ◌≤◌}
+use Prim.Native.Nat.{ℕ, ◌+◌, ◌*◌, ◌<◌}
 use mathlib.Core.Path.{◌≡◌, refl, sym, ◌∙◌, ap, subst}
 use mathlib.Core.List.{List}
 use native.Mathlib.Omega.{arith}
 use native.Mathlib.Decide.{ℕ_discrete}
 use native.Mathlib.Nat.{not-suc-le-zero}
-use borrow.Author.Tests.{lt-ltb, le-ltb}
 use lib.ListN.{length, replicate}
 use lib.Ieee.{Float}
 use Rattle.numbers.specs.declared.C64.{C64}
-use Rattle.numbers.specs.Complex.{zero_number, no_number}
+use Rattle.numbers.specs.Complex.{no_number}
 use Rattle.numbers.specs.Places.{places, number_at, set_number, found_at}
 use Rattle.numbers.proofs.Laws.{length_set_number, number_same, number_other, found_held}
 use Rattle.lattice.specs.Grid.{axis3, n_of}
 use Rattle.lattice.specs.Lattice.{full_lattice, nodes_at, halves_at, half_no, stretch_at, lattice_of, Lengths, LaidStretches}
 use Rattle.lattice.specs.declared.lattice.Lattice.{Lattice}
 use Rattle.lattice.specs.declared.grid.Grid3d.{Grid3d}
-use Rattle.lattice.proofs.GridLaws.{axis_first, axis_second, axis_third}
+use Rattle.lattice.proofs.GridLaws.{axis_both}
 use Rattle.numbers.proofs.TabulateLaws.{tabulate_at_0, tabulate_agree, Filled, filled_start}
 use Rattle.numbers.proofs.Equations.{places_is}
 
 -- the list of an axis has the numbers below the axis's cells
-module _ {g : Grid3d} {xs ys zs : List Float} (l : Lengths g xs ys zs) (a m : ℕ) (h : m < n_of g a) where
-  pub x_room : a ≡ 0 → 2 * m + 1 < length xs
-  unfolding n_of
-  x_room e = omega (arith, h, axis_first a g.nx g.ny g.nz e, l.x_long)
-
-  pub y_room : (a ≡ 0 → ⊥) → a ≡ 1 → 2 * m + 1 < length ys
-  unfolding n_of
-  y_room n e = omega (arith, h, axis_second a g.nx g.ny g.nz n e, l.y_long)
-
-  pub z_room : (a ≡ 0 → ⊥) → (a ≡ 1 → ⊥) → 2 * m + 1 < length zs
-  unfolding n_of
-  z_room n e = omega (arith, h, axis_third a g.nx g.ny g.nz n e, l.z_long)
-
-module _ (g : Grid3d) (xs ys zs : List Float) (q : ℕ) where
-  pub stretch_out : n_of g (q / 64) ≤ q % 64 → zero_number ≡ stretch_at g xs ys zs q
-  unfolding stretch_at
-  stretch_out h = rw (le-ltb (q % 64) (n_of g (q / 64)) h)
-
-  module _ (h : q % 64 < n_of g (q / 64)) where
-    stretch_in : number_at (axis3 (q / 64) xs ys zs) (q % 64) ≡ stretch_at g xs ys zs q
-    unfolding stretch_at
-    stretch_in = rw (lt-ltb (q % 64) (n_of g (q / 64)) h)
-
-    pub stretch_x : q / 64 ≡ 0 → number_at xs (q % 64) ≡ stretch_at g xs ys zs q
-    stretch_x e = ap (λ (l : List Float). number_at l (q % 64)) (axis_first (q / 64) xs ys zs e) ∙ stretch_in
-
-    pub stretch_y : (q / 64 ≡ 0 → ⊥) → q / 64 ≡ 1 → number_at ys (q % 64) ≡ stretch_at g xs ys zs q
-    stretch_y n e = ap (λ (l : List Float). number_at l (q % 64)) (axis_second (q / 64) xs ys zs n e) ∙ stretch_in
-
-    pub stretch_z : (q / 64 ≡ 0 → ⊥) → (q / 64 ≡ 1 → ⊥) → number_at zs (q % 64) ≡ stretch_at g xs ys zs q
-    stretch_z n e = ap (λ (l : List Float). number_at l (q % 64)) (axis_third (q / 64) xs ys zs n e) ∙ stretch_in
+pub axis_room : {g : Grid3d} {xs ys zs : List Float} → Lengths g xs ys zs → (a m : ℕ) → m < n_of g a → 2 * m + 1 < length (axis3 a xs ys zs)
+unfolding n_of
+axis_room l a m =
+    axis_both (λ (n : ℕ) (l : List Float). m < n → 2 * m + 1 < length l) a
+    (λ h. omega (arith, l.x_long, h)) (λ h. omega (arith, l.y_long, h)) (λ h. omega (arith, l.z_long, h))
 
 -- an array is made of n times a value that a call gave
 pub filled_first : {A : Type 0} {f : ℕ → A} {z d y : A} {n : ℕ} → y ≡ z → Filled f z d n 0 (replicate n y)

@@ -14,23 +14,24 @@ use lib.ListN.{get_or, set, replicate, length-replicate, get_or-replicate}
 use lib.IntN.{pos}
 use lib.Ieee.{Float, binary64, in_float}
 use Rattle.lattice.specs.Grid.{n_of, Limits}
-use Rattle.lattice.specs.Check.{Verdict, accepted, refused, verdict_of, is_sound, and_then, check_stretches}
+use Rattle.lattice.specs.Check.{Verdict, accepted, refused, refusal_of, is_sound, and_then, check_stretches}
 use Rattle.lattice.specs.Lattice.{lattice_of, FullLattice}
 use Rattle.lattice.specs.Stretched.{across_map}
 use Rattle.lattice.specs.Line.{packed, ends_of, coarser_ends, LineOver, Held}
 use Rattle.lattice.specs.Levels.{target, line_at, cells_at, edges_at, same, stops, levels_refused, depth_from, depth_of, depth_verdict, verdict, no_line, line_no, lines_to, count_of, Joined, maps_of, three_at, coarser_three, three_edges, same_cells, levels_of, level_lines_of, Answered}
 use Rattle.lattice.specs.declared.line.Line.{Line}
-use Rattle.lattice.specs.declared.levels.Depth.{Depth}
 use Rattle.lattice.specs.declared.levels.Three.{Three}
 use Rattle.lattice.specs.declared.levels.Maps.{Maps}
 use Rattle.lattice.specs.declared.levels.Lines.{Lines}
-use Rattle.lattice.specs.declared.levels.Answer.{Answer}
+use Rattle.lattice.specs.declared.levels.Refusal.TheVariants.{Input, TooMany}
+use Rattle.lattice.specs.declared.levels.Refusal as Levels
+use Rattle.std.specs.Prelude.{Option, None, Some, Result, Ok, Err, ok_or}
 use Rattle.lattice.specs.declared.lattice.Lattice.{Lattice}
-use Rattle.lattice.specs.declared.check.Checked.{Checked}
-use Rattle.lattice.specs.declared.check.Checked.TheVariants.{Sound, Cells, Scalar, Length, Entry}
+use Rattle.lattice.specs.declared.check.Refusal.{Refusal}
+use Rattle.lattice.specs.declared.check.Refusal.TheVariants.{Cells, Scalar, Length, Entry}
 use Rattle.lattice.proofs.GridLaws.{n_some, n_most}
 use Rattle.numbers.proofs.Laws.{or_true, or_false}
-use Rattle.lattice.proofs.CheckLaws.{hands_on, goes_on, checked_of}
+use Rattle.lattice.proofs.CheckLaws.{hands_on, goes_on, refused_unsound, refusal_in}
 use Rattle.numbers.proofs.TabulateLaws.{tabulate_at_0, is_tabulate, Filled, filled_turn}
 use Rattle.lattice.proofs.LatticeLaws.{filled_first}
 use Rattle.lattice.proofs.LineLaws.{ends_packed, finest_over, coarser_over, over_held}
@@ -147,7 +148,7 @@ module _ {l : FullLattice} {coarsest L : ℕ} {lines : List Line} {t : Three} (s
           go (yes y) = with_level_lem.done q y ∙ rw (lt-ltb (q / 3) n (omega arith))
           go (no y) = with_level_lem.bare q (omega arith) b ∙ rw (le-ltb (q / 3) n (omega arith))
 
-  stopped : stops l coarsest L ≡ true → Joined l coarsest (record { depth = Depth.Levels (L + 1); lines = with_level lines L t })
+  stopped : stops l coarsest L ≡ true → Joined l coarsest (record { depth = Some (L + 1); lines = with_level lines L t })
   stopped e =
       let d : depth_of l coarsest ≡ accepted (L + 1) = sym s.rest ∙ depth_stop l coarsest L h e in
       record { depth_is = sym d; lines_are = stop_lines (count_of (depth_of l coarsest)) (ap count_of d) }
@@ -156,7 +157,7 @@ module _ {l : FullLattice} {coarsest L : ℕ} {lines : List Line} {t : Three} (s
   edges_here p = p ∙ (ap three_edges s.here ∙ three_edges_lem l L)
 
   -- few enough edges
-  pub stored_few : {e : ℕ} → e ≡ three_edges t → e ≤ coarsest → Joined l coarsest (record { depth = Depth.Levels (L + 1); lines = with_level lines L t })
+  pub stored_few : {e : ℕ} → e ≡ three_edges t → e ≤ coarsest → Joined l coarsest (record { depth = Some (L + 1); lines = with_level lines L t })
   unfolding stops
   stored_few p q = stopped (or_true (leb (edges_at l L) coarsest) (same l L) r ∙ r)
     where
@@ -177,7 +178,7 @@ module _ {l : FullLattice} {coarsest L : ℕ} {lines : List Line} {t : Three} (s
         ∙ ((λ i. same_cells (next_is i) (s.here i))
         ∙ (three_same l L ∙ sym (or_false (leb (edges_at l L) coarsest) (same l L) (lt-leb (edges_at l L) coarsest (omega (arith, edges_here edges))))))
 
-    pub stored_same : b ≡ true → Joined l coarsest (record { depth = Depth.Levels (L + 1); lines = with_level lines L t })
+    pub stored_same : b ≡ true → Joined l coarsest (record { depth = Some (L + 1); lines = with_level lines L t })
     stored_same q = stopped (sym same_stops ∙ q)
 
     pub stored_turn : b ≡ false → Stored l coarsest (L + 1) (with_level lines L t) next
@@ -200,7 +201,7 @@ no_lines l none n e p =
 
 -- no level of the 12 is the last
 pub stored_end : {l : FullLattice} {coarsest L : ℕ} {lines : List Line} {t : Three} {none : Line} → Stored l coarsest L lines t → L ≡ 12 → none ≡ no_line
-    → Joined l coarsest (record { depth = Depth.TooMany; lines = replicate 36 none })
+    → Joined l coarsest (record { depth = None; lines = replicate 36 none })
 unfolding depth_from
 stored_end {l} {coarsest} {none = none} s e p =
     let d : depth_of l coarsest ≡ levels_refused = sym s.rest ∙ rw e in
@@ -224,60 +225,65 @@ count_refused : (w : Verdict) → is_sound w ≡ false → count_of w ≡ 0
 count_refused (accepted n) e = absurd (false≢true (sym e))
 count_refused (refused number place) e = refl
 
--- in code, where a means what the checks of the input say, and r whether it is sound
-module _ (v : Lattice) (xn xh yn yh zn zh : List Float) (coarsest : ℕ) (a : Checked) {r : Bool}
-    (e : verdict_of a ≡ check_stretches v xn xh yn yh zn zh) (p : r ≡ is_sound (verdict_of a)) where
-  -- a refusal is handed on, with lines of no cells
-  pub answered_refused : {none : Line} → r ≡ false → none ≡ no_line
-      → Answered v xn xh yn yh zn zh coarsest (record { answer = Answer.Refused a; lines = replicate 36 none })
-  unfolding levels_of level_lines_of
-  answered_refused {none} q f =
-      let l = lattice_of v xn xh yn yh zn zh in
-      let h : and_then (check_stretches v xn xh yn yh zn zh) (depth_of l coarsest) ≡ verdict_of a = hands_on a e p (depth_of l coarsest) q in
-      record { answer_is = sym h; lines_are = no_lines l none _ (ap count_of h ∙ count_refused (verdict_of a) (sym p ∙ q)) f }
+-- the level loop's answer, handed on
+depth_answer : (d : Option ℕ) → verdict (ok_or d TooMany) ≡ depth_verdict d
+depth_answer (Some n) = refl
+depth_answer None = refl
 
-  -- the lines of a sound lattice
-  pub answered_found : {k : FullLattice} (f : Lines) (b : Answer) → r ≡ true → k ≡ lattice_of v xn xh yn yh zn zh → Joined k coarsest f
-      → verdict b ≡ depth_verdict f.depth → Answered v xn xh yn yh zn zh coarsest (record { answer = b; lines = f.lines })
+-- in code, where the checks of the input have answered
+module _ (v : Lattice) (xn xh yn yh zn zh : List Float) (coarsest : ℕ) where
+  -- a refusal is handed on, with lines of no cells
+  pub answered_refused : {none : Line} (f : Refusal) → refusal_of f ≡ check_stretches v xn xh yn yh zn zh → none ≡ no_line
+      → Answered v xn xh yn yh zn zh coarsest (record { answer = Err (Input f); lines = replicate 36 none })
   unfolding levels_of level_lines_of
-  answered_found f b q g j s =
+  answered_refused {none} f e n =
       let l = lattice_of v xn xh yn yh zn zh in
-      let h : and_then (check_stretches v xn xh yn yh zn zh) (depth_of l coarsest) ≡ depth_of l coarsest = goes_on a e p (depth_of l coarsest) q in
+      let h : refusal_of f ≡ and_then (check_stretches v xn xh yn yh zn zh) (depth_of l coarsest) = hands_on (depth_of l coarsest) f e in
+      record { answer_is = h; lines_are = no_lines l none _ (ap count_of (sym h) ∙ count_refused (refusal_of f) (refused_unsound f)) n }
+
+  -- the lines of a sound lattice, with the level loop's answer
+  pub answered_found : {k : FullLattice} (f : Lines) {b : Result ℕ Levels.Refusal} → accepted 0 ≡ check_stretches v xn xh yn yh zn zh
+      → k ≡ lattice_of v xn xh yn yh zn zh → Joined k coarsest f
+      → b ≡ ok_or f.depth TooMany → Answered v xn xh yn yh zn zh coarsest (record { answer = b; lines = f.lines })
+  unfolding levels_of level_lines_of
+  answered_found f e g j s =
+      let l = lattice_of v xn xh yn yh zn zh in
+      let h : and_then (check_stretches v xn xh yn yh zn zh) (depth_of l coarsest) ≡ depth_of l coarsest = goes_on (depth_of l coarsest) e in
       record {
-        answer_is = s ∙ (j.depth_is ∙ (ap (λ m. depth_of m coarsest) g ∙ sym h));
+        answer_is = ap verdict s ∙ (depth_answer f.depth ∙ (j.depth_is ∙ (ap (λ m. depth_of m coarsest) g ∙ sym h)));
         lines_are =
             j.lines_are ∙ ((λ i. lines_to (g i) (count_of (depth_of (g i) coarsest))) ∙ ap (λ w. lines_to l (count_of w)) (sym h));
       }
 
 -- ---- an answer is known by what it means
 
-abbrev depth_in : Verdict → Depth
-depth_in (accepted n) = Depth.Levels n
-depth_in (refused number place) = Depth.TooMany
+abbrev depth_in : Verdict → Option ℕ
+depth_in (accepted n) = Some n
+depth_in (refused number place) = None
 
-depth_back : (d : Depth) → depth_in (depth_verdict d) ≡ d
-depth_back (Depth.Levels n) = refl
-depth_back Depth.TooMany = refl
+depth_back : (d : Option ℕ) → depth_in (depth_verdict d) ≡ d
+depth_back (Some n) = refl
+depth_back None = refl
 
-pub depth_verdict_one : (c d : Depth) → depth_verdict c ≡ depth_verdict d → c ≡ d
+pub depth_verdict_one : (c d : Option ℕ) → depth_verdict c ≡ depth_verdict d → c ≡ d
 depth_verdict_one c d e = sym (depth_back c) ∙ (ap depth_in e ∙ depth_back d)
 
-abbrev answer_in : Verdict → Answer
-answer_in (accepted n) = Answer.Levels n
-answer_in (refused number place) = cond (eqb number 5) Answer.TooMany (Answer.Refused (checked_of (refused number place)))
+-- the refusal that means a verdict
+abbrev answer_in : Verdict → Result ℕ Levels.Refusal
+answer_in (accepted n) = Ok n
+answer_in (refused number place) = cond (eqb number 5) (Err TooMany) (Err (Input (refusal_in number place)))
 
-answer_back : (a : Answer) → (verdict a ≡ accepted 0 → ⊥) → answer_in (verdict a) ≡ a
-answer_back (Answer.Levels n) h = refl
-answer_back (Answer.Refused Sound) h = absurd (h refl)
-answer_back (Answer.Refused (Cells place)) h = refl
-answer_back (Answer.Refused (Scalar place)) h = refl
-answer_back (Answer.Refused (Length place)) h = refl
-answer_back (Answer.Refused (Entry place)) h = refl
-answer_back Answer.TooMany h = refl
+answer_back : (a : Result ℕ Levels.Refusal) → answer_in (verdict a) ≡ a
+answer_back (Ok n) = refl
+answer_back (Err (Input (Cells place))) = refl
+answer_back (Err (Input (Scalar place))) = refl
+answer_back (Err (Input (Length place))) = refl
+answer_back (Err (Input (Entry place))) = refl
+answer_back (Err TooMany) = refl
 
--- two answers, but for one of no level, which the levels never give
-pub verdict_one : (a b : Answer) → (verdict a ≡ accepted 0 → ⊥) → verdict a ≡ verdict b → a ≡ b
-verdict_one a b h e = sym (answer_back a h) ∙ (ap answer_in e ∙ answer_back b (λ z. h (e ∙ z)))
+-- two answers
+pub verdict_one : (a b : Result ℕ Levels.Refusal) → verdict a ≡ verdict b → a ≡ b
+verdict_one a b e = sym (answer_back a) ∙ (ap answer_in e ∙ answer_back b)
 
 refused_not : {number place n : ℕ} → refused number place ≡ accepted n → ⊥
 refused_not e = let z : ◌≡◌ {A = ℕ} 0 1 = cc in omega arith

@@ -8,11 +8,14 @@ use native.Mathlib.Omega.{arith}
 use mathlib.Core.Path.{◌≡◌, refl, sym, ap, ◌∙◌, subst}
 use mathlib.Core.Bool.{Bool, true, false, cond, ◌&&◌}
 use mathlib.Core.List.{List, [], ◌∷◌, ◌++◌, append-nil}
-use borrow.Author.Tests.{leb-true, lt-ltb, le-ltb, le-leb, lt-leb}
-use lib.Dec.{leb}
+use borrow.Author.Tests.{ltb-true, ltb-false, leb-true, lt-ltb, le-ltb, le-leb, lt-leb}
+use lib.Dec.{leb, ltb}
 use lib.ListN.{length, get_or, take, drop, set, replicate, length-append, length-replicate, length-take, length-drop, length-set, get_or-replicate, take-append-drop, drop_of_length-le, get_or-append}
-use lib.Seq.{take_at, get_or-take, get_or-drop, drop-cons, get_or-set_other, take-suc-set, append_snoc, length-take-le}
+use lib.Seq.{take_all, take_at, get_or-take, get_or-drop, drop-cons, get_or-set_other, take-suc-set, append_snoc, length-take-le}
 use lib.Ieee.{Float}
+use Rattle.std.specs.List.{prefix_len}
+use Rattle.std.proofs.lemmas.List.{take-replicate, drop-replicate}
+use Rattle.std.proofs.lemmas.List.Sums.{prefix_len-le-length, prefix_len_passes, prefix_len_stops}
 use Rattle.numbers.specs.declared.C64.{C64}
 use Rattle.numbers.specs.Complex.{no_number}
 use Rattle.lattice.specs.declared.line.Line.{Line}
@@ -66,6 +69,17 @@ over_held n es h p =
     }
 
 -- ---- the finest line
+
+-- the loop that fills the first n + 1 of a record's ends: at the start they are zeros, at the end they and the zeros behind them are the line
+pub finest_start : {n : ℕ} → n ≤ 64 → Filled twice 0 0 (n + 1) 0 (take (n + 1) (replicate 65 0))
+finest_start {n} h = rw (take-replicate {X = ℕ} (n + 1) 65 0 (omega arith)) filled_start
+
+pub finest_end : {n m : ℕ} {es : List ℕ} → Filled twice 0 0 (n + 1) m es → n < m
+    → ◌≡◌ {A = Line} (record { cells = n; ends = es ++ drop (n + 1) (replicate 65 0) }) (packed (finest_ends n))
+unfolding finest_ends
+finest_end {n} {m} {es} p h =
+    let e : es ≡ tabulate twice (n + 1) 0 = is_tabulate twice (n + 1) 0 es p.long (λ i b. p.done i (omega arith)) in
+    packed_is (tabulate twice (n + 1) 0) (length_tabulate twice (n + 1) 0) (λ i. e i ++ drop-replicate {X = ℕ} (n + 1) 65 0 i)
 
 rises_twice : (n k : ℕ) → Rises (tabulate twice n k)
 rises_twice zero k = rw (tabulate_zero twice k) rises_nil
@@ -203,7 +217,7 @@ module _ (n m : ℕ) (b : Bool) where
 
 module _ (x : List C64) (t : Float) (l : Line) (m : ℕ) where
   -- the second end behind m is read, or, where there is none, the last, which then decides nothing
-  pub next_is : (i : ℕ) → i ≡ min (m + 2) l.cells
+  next_is : (i : ℕ) → i ≡ min (m + 2) l.cells
       → next_by l.cells m (joins_by (get_or x (get_or l.ends m 0) no_number) (get_or x (get_or l.ends i 0) no_number) t) ≡ next_end x t l m
   unfolding next_end joins
   next_is i e = go (dec_le (m + 2) l.cells)
@@ -213,6 +227,11 @@ module _ (x : List C64) (t : Float) (l : Line) (m : ℕ) where
           ≡ next_by l.cells m (joins_by (get_or x (get_or l.ends m 0) no_number) (get_or x (get_or l.ends (m + 2) 0) no_number) t)
       go (yes h) = let o : i ≡ m + 2 = omega arith in rw o
       go (no h) = sym (next_last l.cells m _ (omega arith)) ∙ next_last l.cells m _ (omega arith)
+
+  -- as the code turns, by the second end behind m and the end that is kept then
+  pub next_turn : {i r : ℕ} → i ≡ min (m + 2) l.cells
+      → r ≡ next_by l.cells m (joins_by (get_or x (get_or l.ends m 0) no_number) (get_or x (get_or l.ends i 0) no_number) t) → r ≡ next_end x t l m
+  next_turn {i} e h = h ∙ next_is i e
 
   next_within : m < l.cells → (m < next_end x t l m) × (next_end x t l m ≤ l.cells)
   unfolding next_end next_by
@@ -342,15 +361,28 @@ joining_end {x} {t} {es} {m} {k} {ends} p h b c =
 
 -- ---- the ends before a place
 
--- the same, by a record's ends
-pub before_held : {l : Line} → Held l → (e q : ℕ) → q ≤ l.cells + 1 → ((m : ℕ) → m < q → get_or l.ends m 0 < e)
-    → (q < l.cells + 1 → e ≤ get_or l.ends q 0) → q ≡ before e (ends_of l)
-before_held {l} p e q h a b =
-    let k : length (ends_of l) ≡ l.cells + 1 = length_ends l p in
-    sym
-    (before_is e (ends_of l) q (omega arith)
-    (λ m c. rw (ends_at l m (omega arith)) (a m c))
-    (λ c. rw (ends_at l q (omega arith)) (b (omega arith))))
+-- where the first ends are known to be below e, the others are passed one by one
+module _ (e from : ℕ) (es : List ℕ) (h : from ≤ length es) (a : (m : ℕ) → m < from → get_or es m 0 < e) where
+  passed : ℕ
+  passed = prefix_len (λ f. ltb f e) (drop from es)
+
+  passed_below : (m : ℕ) → m < from + passed → Dec (m < from) → get_or es m 0 < e
+  unfolding passed
+  passed_below m c (yes b) = a m b
+  passed_below m c (no b) =
+      let d : from + (m - from) ≡ m = omega arith in
+      rw (get_or-drop from es (m - from) 0, d) at
+      (ltb-true _ _ (prefix_len_passes (λ f. ltb f e) (drop from es) (m - from) 0 (omega arith)))
+
+  pub before_past : from + prefix_len (λ f. ltb f e) (take (length es - from) (drop from es)) ≡ before e es
+  unfolding passed
+  before_past =
+      let k : length (drop from es) ≡ length es - from = length-drop from es in
+      rw (take_all (length es - from) (drop from es) (omega arith))
+      (sym
+      (before_is e es (from + passed) (omega (arith, prefix_len-le-length (λ f. ltb f e) (drop from es)))
+      (λ m c. passed_below m c (dec_lt m from))
+      (λ c. rw (get_or-drop from es passed 0) at (ltb-false _ _ (prefix_len_stops (λ f. ltb f e) (drop from es) 0 (omega arith))))))
 
 -- ---- the numbers of a coarse line's nodes on a fine one
 
@@ -373,26 +405,25 @@ nodes_at_lem fine (e ∷ es) (suc m) h = nodes_at_lem fine es m (le_of_suc-le-su
 pub record Numbered (fine coarse : Line) (m q : ℕ) (nodes : List ℕ) : Type 0 where
   pub filled : Filled (node_on (ends_of fine) (ends_of coarse)) 0 0 65 m nodes
   pub most : q ≤ fine.cells + 1
-  pub below : m < coarse.cells + 1 → (i : ℕ) → i < q → get_or fine.ends i 0 < get_or coarse.ends m 0
+  pub below : m < coarse.cells + 1 → (i : ℕ) → i < q → get_or fine.ends i 0 < get_or (ends_of coarse) m 0
 
 pub numbered_start : {fine coarse : Line} → Numbered fine coarse 0 0 (replicate 65 0)
 numbered_start = record { filled = filled_start; most = omega arith; below = λ h i b. absurd (omega arith) }
 
 pub numbered_turn : {fine coarse : Line} {m q q' : ℕ} {nodes : List ℕ} → Held fine → Held coarse → Rises (ends_of coarse)
-    → Numbered fine coarse m q nodes → m < coarse.cells + 1 → q' ≡ before (get_or coarse.ends m 0) (ends_of fine)
+    → Numbered fine coarse m q nodes → m < coarse.cells + 1 → q' ≡ before (get_or (ends_of coarse) m 0) (ends_of fine)
     → Numbered fine coarse (m + 1) q' (set nodes m q')
 numbered_turn {fine} {coarse} {m} {q} {q'} {nodes} f g r p h e =
     let a : length (ends_of fine) ≡ fine.cells + 1 = length_ends fine f in
     let b : length (ends_of coarse) ≡ coarse.cells + 1 = length_ends coarse g in
-    let here : get_or (ends_of coarse) m 0 ≡ get_or coarse.ends m 0 = ends_at coarse m (omega arith) in
-    let most : q' ≤ fine.cells + 1 = omega (arith, before_most (get_or coarse.ends m 0) (ends_of fine)) in
+    let most : q' ≤ fine.cells + 1 = omega (arith, before_most (get_or (ends_of coarse) m 0) (ends_of fine)) in
     record {
-      filled = filled_turn p.filled (omega (arith, g.most)) (rw here e);
+      filled = filled_turn p.filled (omega (arith, g.most)) e;
       most = most;
       below = λ k i c.
-          let low : get_or (ends_of fine) i 0 < get_or coarse.ends m 0 = before_below (get_or coarse.ends m 0) (ends_of fine) i (omega arith) in
+          let low : get_or (ends_of fine) i 0 < get_or (ends_of coarse) m 0 = before_below (get_or (ends_of coarse) m 0) (ends_of fine) i (omega arith) in
           let up : get_or (ends_of coarse) m 0 < get_or (ends_of coarse) (m + 1) 0 = rises_below (ends_of coarse) r m (m + 1) (omega arith) (omega arith) in
-          omega (arith, ends_at fine i (omega arith), ends_at coarse (m + 1) (omega arith));
+          omega (arith, ends_at fine i (omega arith));
     }
 
 pub numbered_end : {fine coarse : Line} {m q : ℕ} {nodes : List ℕ} → Held coarse → Numbered fine coarse m q nodes → m ≡ coarse.cells + 1

@@ -1,6 +1,6 @@
 -- The rows' lists of terms: how long they are, that their columns are edges of the lattice, what of the permittivities they read.
 -- Assumes nothing.
-use Prim.Native.Nat.{ℕ, suc, ◌+◌, ◌^◌, ◌<◌, ◌≤◌}
+use Prim.Native.Nat.{ℕ, zero, suc, ◌+◌, ◌^◌, ◌<◌, ◌≤◌}
 use mathlib.Core.Path.{◌≡◌, refl, ap, sym, ◌∙◌}
 use mathlib.Core.Bool.{Bool, true, false, cond}
 use mathlib.Core.List.Memᴰ
@@ -10,15 +10,15 @@ use mathlib.Core.List.{List, [], ◌∷◌, ◌++◌, append-nil, Memᴰ as In}
 use native.Mathlib.Omega.{arith}
 use native.Mathlib.Numerals.{add-one}
 use borrow.Author.Tests.{le-leb, eq-eqb, ne_eqb}
-use lib.ListN.{length, get_or, take, length-append}
-use lib.Seq.{take-suc}
+use lib.ListN.{length, get_or, take, replicate, length-append, length-take}
+use lib.Seq.{take-suc, take-length, get_or-take, length-take-le}
 use lib.Dec.{T}
 use lib.IntN.{pos}
 use lib.Ieee.{Float, binary64, of_int, in_float}
 use Rattle.numbers.specs.declared.C64.{C64}
 use Rattle.numbers.specs.Complex.{mul_f, neg_f, one_f, zero_number, one_number, sum, negation, real_over, over_real, product, real_times}
 use Rattle.lattice.specs.Grid.{unknowns_of, Limits, Inside, with_component, at_of, next_axis, last_axis}
-use Rattle.numbers.specs.Terms.{Term, columns_of}
+use Rattle.numbers.specs.Terms.{Term, Wrote, Below, columns_of, terms_in}
 use Rattle.numbers.specs.Lists.{each, summed}
 use Rattle.lattice.specs.Neighbours.{neighbour_of, is_fixed, is_node_fixed}
 use Rattle.lattice.specs.Curls.{minus_one_f, half_weight, node_weight, term_to, term_here, ahead, behind, curl_e_at, curl_e, curl_h_at, curl_h, divergence_of, free_nodes, gradient_at, gradient_of}
@@ -28,9 +28,9 @@ use Rattle.lattice.specs.declared.grid.Position.{Position}
 use Rattle.lattice.specs.Lattice.{FullLattice}
 use Rattle.lattice.specs.declared.rows.Sum.{Sum}
 use Rattle.lattice.specs.declared.neighbours.Arrival.{Arrival}
-use Rattle.lattice.specs.declared.neighbours.Arrival.TheVariants.{To, Beyond}
+use Rattle.std.specs.Prelude.{None, Some, Option}
 use Rattle.lattice.proofs.GridLaws.{at_inside, index_below, with_inside, next_low, last_low, neighbour_below}
-use Rattle.numbers.proofs.TermLaws.{Low, none, more, low_append, low_each, each_most, Holds, columns_held}
+use Rattle.numbers.proofs.TermLaws.{Low, none, more, low_append, low_each, each_most, Holds, read_back, low_below, columns_held}
 use Rattle.numbers.proofs.LoopLaws.{summed_local}
 use Rattle.numbers.proofs.Equations.{each_nil, each_cons, columns_of_cons, summed_nil}
 use Rattle.numbers.proofs.ElementLaws.{summed_append}
@@ -45,9 +45,9 @@ with_in {g} {p} {q} {c} i b e = rw e (with_inside i c b)
 
 -- ---- lengths
 
-pub to_most : (to : Arrival) (w : C64) → length (term_to to w) ≤ 1
-to_most Beyond w = omega arith
-to_most (To c phase) w = omega arith
+pub to_most : (to : Option Arrival) (w : C64) → length (term_to to w) ≤ 1
+to_most None w = omega arith
+to_most (Some s) w = omega arith
 
 pub here_most : (l : FullLattice) (p : Position) (c : ℕ) (w : C64) → length (term_here l p c w) ≤ 1
 unfolding term_here
@@ -165,9 +165,9 @@ module _ (l : FullLattice) (h : Limits l.grid) where
   low_to : {p : Position} (a : ℕ) (up : Bool) (w : C64) → Inside l.grid p → Low (unknowns_of l.grid) (term_to (neighbour_of l p a up) w)
   low_to {p} a up w i = go (neighbour_of l p a up) refl
     where
-      go : (to : Arrival) → neighbour_of l p a up ≡ to → Low (unknowns_of l.grid) (term_to to w)
-      go Beyond e = none
-      go (To c v) e = more (neighbour_below l p a up c v h i e) none
+      go : (to : Option Arrival) → neighbour_of l p a up ≡ to → Low (unknowns_of l.grid) (term_to to w)
+      go None e = none
+      go (Some s) e = more (neighbour_below l p a up s.at s.phase h i e) none
 
   low_here : {p : Position} (c : ℕ) (w : C64) → Inside l.grid p → c < 3 → Low (unknowns_of l.grid) (term_here l p c w)
   unfolding term_here
@@ -261,43 +261,41 @@ free_more : (l : FullLattice) (cs : List ℕ) (m : ℕ) → m < length cs
 free_more l cs m h = rw (add-one m, take-suc cs m 0 h) (free_append l (take m cs) (get_or cs m 0))
 
 -- a loop that sums over the first n edges of a list, m of them done
-pub record Summing (l : FullLattice) (f : ℕ → C64) (cs : List ℕ) (n : ℕ) (total : C64) (count m : ℕ) : Type 0 where
-  pub high : m ≤ n
+pub record Summing (l : FullLattice) (f : ℕ → C64) (cs : List ℕ) (total : C64) (count m : ℕ) : Type 0 where
   pub few : count ≤ m
   pub total_is : total ≡ summed f zero_number (free_of l (take m cs))
   pub count_is : count ≡ length (free_of l (take m cs))
 
-module _ {l : FullLattice} {f : ℕ → C64} {cs : List ℕ} {n : ℕ} where
-  pub summing_start : {total : C64} → total ≡ zero_number → Summing l f cs n total 0 0
+module _ {l : FullLattice} {f : ℕ → C64} {cs : List ℕ} where
+  pub summing_start : {total : C64} → total ≡ zero_number → Summing l f cs total 0 0
   unfolding free_of
-  summing_start e = record { high = omega arith; few = omega arith; total_is = e ∙ sym (summed_nil f zero_number); count_is = refl }
+  summing_start e = record { few = omega arith; total_is = e ∙ sym (summed_nil f zero_number); count_is = refl }
 
-  pub summing_fixed : {total : C64} {count m : ℕ} → Summing l f cs n total count m → m < n → n ≤ length cs
-      → is_fixed l (get_or cs m 0) ≡ true → Summing l f cs n total count (m + 1)
-  summing_fixed {total} {count} {m} u h j e =
+  pub summing_fixed : {total : C64} {count m : ℕ} → Summing l f cs total count m → m < length cs
+      → is_fixed l (get_or cs m 0) ≡ true → Summing l f cs total count (m + 1)
+  summing_fixed {total} {count} {m} u h e =
       let d : free_of l (take (m + 1) cs) ≡ free_of l (take m cs) =
-      rw (free_more l cs m (omega arith), e) (append-nil (free_of l (take m cs))) in
-      record { high = omega arith; few = omega arith; total_is = rw d u.total_is; count_is = rw d u.count_is }
+      rw (free_more l cs m h, e) (append-nil (free_of l (take m cs))) in
+      record { few = omega arith; total_is = rw d u.total_is; count_is = rw d u.count_is }
 
-  pub summing_free : {total total' v : C64} {count m : ℕ} → Summing l f cs n total count m → m < n → n ≤ length cs
-      → is_fixed l (get_or cs m 0) ≡ false → v ≡ f (get_or cs m 0) → total' ≡ sum total v → Summing l f cs n total' (count + 1) (m + 1)
-  summing_free {total} {total'} {v} {count} {m} u h j e p q =
+  pub summing_free : {total total' v : C64} {count m : ℕ} → Summing l f cs total count m → m < length cs
+      → is_fixed l (get_or cs m 0) ≡ false → v ≡ f (get_or cs m 0) → total' ≡ sum total v → Summing l f cs total' (count + 1) (m + 1)
+  summing_free {total} {total'} {v} {count} {m} u h e p q =
       let es = free_of l (take m cs) in
-      let d : free_of l (take (m + 1) cs) ≡ es ++ (get_or cs m 0 ∷ []) = rw (free_more l cs m (omega arith), e) in
+      let d : free_of l (take (m + 1) cs) ≡ es ++ (get_or cs m 0 ∷ []) = rw (free_more l cs m h, e) in
       record {
-        high = omega arith;
         few = omega arith;
         total_is = rw (d, summed_append f zero_number es (get_or cs m 0), ← p, ← u.total_is) q;
         count_is = rw d (omega (arith, length-append es (get_or cs m 0 ∷ []), u.count_is));
       }
 
-  pub summing_end : {total : C64} {count m : ℕ} → Summing l f cs n total count m → n ≤ m
-      → ◌≡◌ {A = Sum} (record { total = total; count = count }) (free_sum l f (take n cs))
+  pub summing_end : {total : C64} {count m : ℕ} → Summing l f cs total count m → m ≡ length cs
+      → ◌≡◌ {A = Sum} (record { total = total; count = count }) (free_sum l f cs)
   unfolding free_sum
   summing_end {total} {count} {m} u h =
-      let e : m ≡ n = omega arith in
-      let p : total ≡ summed f zero_number (free_of l (take n cs)) = rw e at u.total_is in
-      let q : count ≡ length (free_of l (take n cs)) = rw e at u.count_is in
+      let e : take m cs ≡ cs = rw h (take-length cs) in
+      let p : total ≡ summed f zero_number (free_of l cs) = rw e at u.total_is in
+      let q : count ≡ length (free_of l cs) = rw e at u.count_is in
       λ i. record { total = p i; count = q i }
 
 -- ---- the mean over them
@@ -383,3 +381,31 @@ row_local l f g r = go (is_fixed l r)
         λ i.
         record { column = r; number = real_times (mul_f l.k0 l.k0) (h r (head refl) i) }
         ∷ (curl_curl l r ++ nodes_local l f g (gradient_of l r) (λ c m. h c (tail m)) i)
+
+-- ---- what a call leaves in new lists, read back
+
+module _ (l : FullLattice) (r : ℕ) {n : ℕ} {z : Float} {cs : List ℕ} {xs : List Float} where
+  pub curl_e_held : Wrote (replicate 4 0) (replicate 8 z) 0 (curl_e l r) cs xs n → Holds 4 (curl_e l r) cs xs n
+  curl_e_held w = read_back 4 w (curl_e_most l r) (omega arith) (omega arith)
+
+  pub curl_h_held : Wrote (replicate 4 0) (replicate 8 z) 0 (curl_h l r) cs xs n → Holds 4 (curl_h l r) cs xs n
+  curl_h_held w = read_back 4 w (curl_h_most l r) (omega arith) (omega arith)
+
+  pub divergence_held : Wrote (replicate 6 0) (replicate 12 z) 0 (divergence_of l r) cs xs n → Holds 6 (divergence_of l r) cs xs n
+  divergence_held w = read_back 6 w (divergence_most l r) (omega arith) (omega arith)
+
+  pub gradient_held : Wrote (replicate 2 0) (replicate 4 z) 0 (gradient_of l r) cs xs n → Holds 2 (gradient_of l r) cs xs n
+  gradient_held w = read_back 2 w (gradient_most l r) (omega arith) (omega arith)
+
+-- the columns that are held, as a slice
+pub below_held : {u b n : ℕ} {ts : List Term} {cs : List ℕ} {xs : List Float} → Holds b ts cs xs n → Low u ts → Below u (take n cs) (length (take n cs))
+below_held {n = n} {cs = cs} e v =
+    record { low = λ m h. let i : m < n = omega (arith, length-take n cs) in rw (get_or-take n cs m 0 i) ((low_below e v).low m i) }
+
+terms_taken : (n : ℕ) (cs : List ℕ) (xs : List Float) (k m : ℕ) → k + m ≤ n → terms_in (take n cs) xs k m ≡ terms_in cs xs k m
+unfolding terms_in
+terms_taken n cs xs k zero h = refl
+terms_taken n cs xs k (suc m) h = rw (get_or-take n cs k 0 (omega arith), terms_taken n cs xs (suc k) m (omega arith))
+
+pub terms_held : {b n : ℕ} {ts : List Term} {cs : List ℕ} {xs : List Float} → Holds b ts cs xs n → terms_in (take n cs) xs 0 (length (take n cs)) ≡ ts
+terms_held {n = n} {cs = cs} {xs = xs} e = rw (length-take-le n cs e.columns_room, terms_taken n cs xs 0 n (omega arith)) e.terms

@@ -48,8 +48,9 @@ use Rattle.lattice.specs.declared.grid.Position.{Position}
 use Rattle.lattice.specs.declared.lattice.Edges.{Edges}
 use Rattle.lattice.specs.declared.lattice.Edges.TheVariants.{Pml, Bloch}
 use Rattle.lattice.specs.declared.neighbours.Arrival.{Arrival}
-use Rattle.lattice.specs.declared.neighbours.Arrival.TheVariants.{To, Beyond}
-use Rattle.lattice.proofs.GridLaws.{axis_each, place_inside, moved_inside, with_inside, shift_below, at_inside}
+use Rattle.std.specs.Prelude.{None, Some, Option}
+use Rattle.lattice.specs.Neighbours.{to_place}
+use Rattle.lattice.proofs.GridLaws.{axis_each, place_inside, moved_inside, with_inside, same_place, shift_below, at_inside}
 use Rattle.lattice.proofs.CurlLaws.{to_column, here_column}
 use Rattle.lattice.proofs.NeighbourLaws.{shift_up, shift_high, shift_down, shift_low, past_high_lem, past_low_lem}
 use Rattle.numbers.proofs.EachLaws.{columns_append}
@@ -119,7 +120,7 @@ position_is e h = λ n. record { component = e n; i = h 0 (omega arith) n; j = h
 
 data Reach (l : FullLattice) (a : ℕ) (up : Bool) (m k : ℕ) : Type 0 where
   here : m ≡ k → Reach l a up m k
-  there : (w : C64) → shifted (edges_of l a) (n_of l.grid a) m up ≡ To k w → Reach l a up m k
+  there : (w : C64) → shifted (edges_of l a) (n_of l.grid a) m up ≡ to_place k w → Reach l a up m k
 
 -- from a face's place up to an edge's, or from an edge's down to a face's
 abbrev Half : FullLattice → ℕ → Bool → ℕ → ℕ → Type 0
@@ -127,32 +128,32 @@ Half l a true m k = HalfStep l a (2 * m + 1) (2 * k)
 Half l a false m k = HalfStep l a (2 * k + 1) (2 * m)
 
 module _ (l : FullLattice) (a m k : ℕ) (mine : m < n_of l.grid a) where
-  step_half : (up : Bool) (w : C64) → shifted (edges_of l a) (n_of l.grid a) m up ≡ To k w → Half l a up m k
+  step_half : (up : Bool) (w : C64) → shifted (edges_of l a) (n_of l.grid a) m up ≡ to_place k w → Half l a up m k
   unfolding shifted
   step_half true w q = go (ltb (m + 1) (n_of l.grid a)) (edges_of l a) refl refl q
     where
       go : (b : Bool) (e : Edges)
           → ltb (m + 1) (n_of l.grid a) ≡ b
           → edges_of l a ≡ e
-          → cond b (To (m + 1) one_number) (past_high e) ≡ To k w
+          → cond b (to_place (m + 1) one_number) (past_high e) ≡ to_place k w
           → HalfStep l a (2 * m + 1) (2 * k)
-      go true e f d q = let z : m + 1 ≡ k = cc in plus (omega arith)
+      go true e f d q = let z : m + 1 ≡ k = same_place q in plus (omega arith)
       go false Pml f d q = let z : ◌≡◌ {A = ℕ} 0 1 = cc in absurd (omega arith)
       go false (Bloch p) f d q =
-          let z : 0 ≡ k = cc in
+          let z : 0 ≡ k = same_place q in
           plus_period (ap is_wall d) (omega (arith, ltb-false (m + 1) (n_of l.grid a) f))
   step_half false w q = go (eqb m 0) (edges_of l a) refl refl q
     where
       go : (b : Bool) (e : Edges)
           → eqb m 0 ≡ b
           → edges_of l a ≡ e
-          → cond b (past_low e (n_of l.grid a)) (To (m - 1) one_number) ≡ To k w
+          → cond b (past_low e (n_of l.grid a)) (to_place (m - 1) one_number) ≡ to_place k w
           → HalfStep l a (2 * k + 1) (2 * m)
       go true Pml f d q = let z : ◌≡◌ {A = ℕ} 0 1 = cc in absurd (omega arith)
       go true (Bloch p) f d q =
-          let z : n_of l.grid a - 1 ≡ k = cc in
+          let z : n_of l.grid a - 1 ≡ k = same_place q in
           plus_period (ap is_wall d) (omega (arith, eqb-true m 0 f))
-      go false e f d q = let z : m - 1 ≡ k = cc in plus (omega (arith, eqb-false m 0 f))
+      go false e f d q = let z : m - 1 ≡ k = same_place q in plus (omega (arith, eqb-false m 0 f))
 
   reach_half : (up : Bool) → Reach l a up m k → Half l a up m k
   reach_half true (here e) = minus (omega arith)
@@ -163,21 +164,21 @@ module _ (l : FullLattice) (a m k : ℕ) (mine : m < n_of l.grid a) where
   half_reach : (up : Bool) → k < n_of l.grid a → Half l a up m k → Reach l a up m k
   half_reach true h (plus e) =
       let z : m + 1 ≡ k = omega arith in
-      there one_number (sym (shift_up (edges_of l a) (n_of l.grid a) m true one_number refl (omega arith) refl) ∙ ap (λ n. To n one_number) z)
+      there one_number (sym (shift_up (edges_of l a) (n_of l.grid a) m true one_number refl (omega arith) refl) ∙ ap (λ n. to_place n one_number) z)
   half_reach true h (minus e) = here (omega arith)
   half_reach true h (plus_period b e) =
       let z : 0 ≡ k = omega arith in
       let s = past_high_lem (edges_of l a) b in
-      there s.0 (sym (shift_high (edges_of l a) (n_of l.grid a) m true refl (omega arith)) ∙ s.1 ∙ ap (λ n. To n s.0) z)
+      there s.0 (sym (shift_high (edges_of l a) (n_of l.grid a) m true refl (omega arith)) ∙ s.1 ∙ ap (λ n. to_place n s.0) z)
   half_reach true h (minus_period b e) = absurd (omega arith)
   half_reach false h (plus e) =
       let z : m - 1 ≡ k = omega arith in
-      there one_number (sym (shift_down (edges_of l a) (n_of l.grid a) m false one_number refl (omega arith) refl) ∙ ap (λ n. To n one_number) z)
+      there one_number (sym (shift_down (edges_of l a) (n_of l.grid a) m false one_number refl (omega arith) refl) ∙ ap (λ n. to_place n one_number) z)
   half_reach false h (minus e) = here (omega arith)
   half_reach false h (plus_period b e) =
       let z : n_of l.grid a - 1 ≡ k = omega arith in
       let s = past_low_lem (edges_of l a) (n_of l.grid a) b in
-      there s.0 (sym (shift_low (edges_of l a) (n_of l.grid a) m false refl (omega arith)) ∙ s.1 ∙ ap (λ n. To n s.0) z)
+      there s.0 (sym (shift_low (edges_of l a) (n_of l.grid a) m false refl (omega arith)) ∙ s.1 ∙ ap (λ n. to_place n s.0) z)
   half_reach false h (minus_period b e) = absurd (omega arith)
 
   reach_below : (up : Bool) → Reach l a up m k → k < n_of l.grid a
@@ -286,12 +287,12 @@ module _ (l : FullLattice) (p : Position) (t f c : ℕ) (up : Bool) where
   unfolding neighbour_of place_on with_component
   to_hit w h = go (shifted (edges_of l t) (n_of l.grid t) (place_on p t) up) refl h
     where
-      go : (s : Arrival)
+      go : (s : Option Arrival)
           → shifted (edges_of l t) (n_of l.grid t) (place_on p t) up ≡ s
           → In c (columns_of (term_to (arrived l (with_component p f) t s) w))
           → Hit l p t f up c
-      go Beyond e h = absurd (In-none (rw columns_of_nil at h))
-      go (To k v) e h = (k, there v e, sym (In-single (rw (to_column (index_of l.grid (moved_to (with_component p f) t k)) v w) at h)))
+      go None e h = absurd (In-none (rw columns_of_nil at h))
+      go (Some s) e h = (s.at, there s.phase e, sym (In-single (rw (to_column (index_of l.grid (moved_to (with_component p f) t s.at)) s.phase w) at h)))
 
   hit_in : (w v : C64)
       → Hit l p t f up c

@@ -1,6 +1,6 @@
 -- The checks of the setup's input (docs/SPECIFICATION.md, 5): refusals 1 to 4, the first that holds in the order of the table.
 -- Assumes nothing.
-use Rattle.std.specs.Prelude.{ℕ, zero, suc, ◌+◌, ◌*◌, Bool, true, false, not, ◌&&◌, ◌||◌, cond, List, [], ◌∷◌, ◌++◌, eqb, ltb, length, Float}
+use Rattle.std.specs.Prelude.{ℕ, zero, suc, ◌+◌, ◌*◌, Bool, true, false, not, ◌&&◌, ◌||◌, cond, List, [], ◌∷◌, ◌++◌, eqb, ltb, length, Float, ⊤, Option, None, Some, Result, Ok, Err}
 use Rattle.std.specs.Float.Ieee as Ieee
 use Rattle.numbers.specs.declared.C64.{C64}
 use Rattle.numbers.specs.Complex.{zero_f, finite_double, finite, is_zero}
@@ -10,8 +10,8 @@ use Rattle.lattice.specs.declared.grid.Grid3d.{Grid3d}
 use Rattle.lattice.specs.declared.lattice.Edges.{Edges}
 use Rattle.lattice.specs.declared.lattice.Edges.TheVariants.{Pml, Bloch}
 use Rattle.lattice.specs.declared.lattice.Lattice.{Lattice}
-use Rattle.lattice.specs.declared.check.Checked.{Checked}
-use Rattle.lattice.specs.declared.check.Checked.TheVariants.{Sound, Cells, Scalar, Length, Entry}
+use Rattle.lattice.specs.declared.check.Refusal.{Refusal}
+use Rattle.lattice.specs.declared.check.Refusal.TheVariants.{Cells, Scalar, Length, Entry}
 
 -- ---- what an answer says: accepted, with the number that the call answers (0 for a check, the level count for the levels), or the refusal's number
 -- and place
@@ -33,13 +33,16 @@ length_refused = refused 3
 abbrev pub entry_refused : ℕ → Verdict
 entry_refused = refused 4
 
--- what the checks' answers mean
-abbrev pub verdict_of : Checked → Verdict
-verdict_of Sound = accepted 0
-verdict_of (Cells place) = grid_refused place
-verdict_of (Scalar place) = scalar_refused place
-verdict_of (Length place) = length_refused place
-verdict_of (Entry place) = entry_refused place
+-- what a refusal means, and a check's answer
+abbrev pub refusal_of : Refusal → Verdict
+refusal_of (Cells place) = grid_refused place
+refusal_of (Scalar place) = scalar_refused place
+refusal_of (Length place) = length_refused place
+refusal_of (Entry place) = entry_refused place
+
+abbrev pub verdict_of : Result ⊤ Refusal → Verdict
+verdict_of (Ok sound) = accepted 0
+verdict_of (Err refusal) = refusal_of refusal
 
 abbrev pub is_sound : Verdict → Bool
 is_sound (accepted n) = true
@@ -110,6 +113,11 @@ check_lengths i (v ∷ vs) = cond (eqb (length v.list) (2 * v.count)) (check_len
 unfoldable pub first_bad : List Float → ℕ → ℕ → ℕ
 first_bad xs zero k = k
 first_bad xs (suc n) k = cond (bad_number (number_at xs k)) k (first_bad xs n (suc k))
+
+-- a place among n, and n where there is none
+abbrev pub or_count : ℕ → Option ℕ → ℕ
+or_count n None = n
+or_count n (Some k) = k
 
 unfoldable pub check_entries : ℕ → List Given → Verdict
 check_entries position [] = accepted 0

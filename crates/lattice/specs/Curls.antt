@@ -1,6 +1,6 @@
 -- The curls, the divergence and the gradient on the lattice (docs/SPECIFICATION.md, 3): lists of terms, in the order pushed.
 -- Assumes nothing.
-use Rattle.std.specs.Prelude.{ℕ, true, false, cond, List, [], ◌∷◌, ◌++◌, Float}
+use Rattle.std.specs.Prelude.{ℕ, true, false, cond, List, [], ◌∷◌, ◌++◌, Float, Option, Some, None}
 use Rattle.std.specs.Float.{binary64}
 use Rattle.std.specs.Float.Ieee.{of_bits}
 use Rattle.numbers.specs.declared.C64.{C64}
@@ -11,7 +11,6 @@ use Rattle.numbers.specs.Terms.{Term}
 use Rattle.lattice.specs.Neighbours.{neighbour_of, is_node_fixed}
 use Rattle.lattice.specs.declared.grid.Position.{Position}
 use Rattle.lattice.specs.declared.neighbours.Arrival.{Arrival}
-use Rattle.lattice.specs.declared.neighbours.Arrival.TheVariants.{To, Beyond}
 
 -- -1
 abbrev pub minus_one_f : Float
@@ -25,9 +24,9 @@ unfoldable pub node_weight : FullLattice → Position → ℕ → Float → C64
 node_weight l p a sign = real_over sign (real_times (step_of l.grid a) (nodes_at l a (place_on p a)))
 
 -- where a step leads has the term w times the step's factor; beyond a wall there is no term
-abbrev pub term_to : Arrival → C64 → List Term
-term_to Beyond w = []
-term_to (To c phase) w = record { column = c; number = product w phase } ∷ []
+abbrev pub term_to : Option Arrival → C64 → List Term
+term_to None w = []
+term_to (Some s) w = record { column = s.at; number = product w s.phase } ∷ []
 
 -- the term of a position of a component
 unfoldable pub term_here : FullLattice → Position → ℕ → C64 → List Term

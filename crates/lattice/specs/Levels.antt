@@ -1,6 +1,6 @@
 -- The level loop (docs/SPECIFICATION.md, 4): each axis's line on each level, and how many levels there are.
 -- Assumes nothing.
-use Rattle.std.specs.Prelude.{ℕ, zero, suc, ◌+◌, ◌-◌, ◌*◌, ◌/◌, ◌%◌, ◌^◌, ◌≡◌, Bool, ◌&&◌, ◌||◌, cond, List, eqb, leb, ltb, length, replicate, pos, Float}
+use Rattle.std.specs.Prelude.{ℕ, zero, suc, ◌+◌, ◌-◌, ◌*◌, ◌/◌, ◌%◌, ◌^◌, ◌≡◌, Bool, ◌&&◌, ◌||◌, cond, List, eqb, leb, ltb, length, replicate, pos, Float, Option, Some, None, Result, Ok, Err}
 use Rattle.std.specs.Float.{binary64}
 use Rattle.std.specs.Float.Ieee.{of_bits, of_int}
 use Rattle.numbers.specs.Complex.{mul_f}
@@ -9,14 +9,14 @@ use Rattle.numbers.specs.Lists.{tabulate}
 use Rattle.lattice.specs.Lattice.{lattice_of, FullLattice}
 use Rattle.lattice.specs.Stretched.{across_map}
 use Rattle.lattice.specs.Line.{packed, ends_of, finest_ends, coarser_ends}
-use Rattle.lattice.specs.Check.{Verdict, accepted, refused, verdict_of, and_then, check_stretches}
+use Rattle.lattice.specs.Check.{Verdict, accepted, refused, refusal_of, and_then, check_stretches}
 use Rattle.lattice.specs.declared.line.Line.{Line}
 use Rattle.lattice.specs.declared.lattice.Lattice.{Lattice}
-use Rattle.lattice.specs.declared.levels.Depth.{Depth}
 use Rattle.lattice.specs.declared.levels.Three.{Three}
 use Rattle.lattice.specs.declared.levels.Maps.{Maps}
 use Rattle.lattice.specs.declared.levels.Lines.{Lines}
-use Rattle.lattice.specs.declared.levels.Answer.{Answer}
+use Rattle.lattice.specs.declared.levels.Refusal.{Refusal}
+use Rattle.lattice.specs.declared.levels.Refusal.TheVariants.{Input, TooMany}
 use Rattle.lattice.specs.declared.levels.LevelLines.{LevelLines}
 
 -- 1.5: how much longer than the level's cells a joined cell may be
@@ -62,14 +62,14 @@ unfoldable pub depth_of : FullLattice → ℕ → Verdict
 depth_of l coarsest = depth_from l coarsest 12 0
 
 -- what the level loop's answers mean, and those of the levels
-abbrev pub depth_verdict : Depth → Verdict
-depth_verdict (Depth.Levels n) = accepted n
-depth_verdict Depth.TooMany = levels_refused
+abbrev pub depth_verdict : Option ℕ → Verdict
+depth_verdict (Some n) = accepted n
+depth_verdict None = levels_refused
 
-abbrev pub verdict : Answer → Verdict
-verdict (Answer.Levels n) = accepted n
-verdict (Answer.Refused c) = verdict_of c
-verdict Answer.TooMany = levels_refused
+abbrev pub verdict : Result ℕ Refusal → Verdict
+verdict (Ok n) = accepted n
+verdict (Err (Input c)) = refusal_of c
+verdict (Err TooMany) = levels_refused
 
 -- ---- the lines of all levels, in the order of levels and, in a level, of axes
 

@@ -3,6 +3,7 @@ pub mod Lattice
 pub mod Neighbours
 pub mod Curls
 pub mod Yee
+pub mod Calls
 pub mod Rows
 pub mod Stretched
 pub mod Line

@@ -1,6 +1,7 @@
 -- Neighbours on the lattice (docs/SPECIFICATION.md, 3): one step along an axis, and which edges and nodes are fixed.
 -- Assumes nothing.
-use Rattle.std.specs.Prelude.{ℕ, ◌+◌, ◌-◌, Bool, not, ◌&&◌, ◌||◌, cond, eqb, ltb}
+use Rattle.std.specs.Prelude.{ℕ, ◌+◌, ◌-◌, Bool, not, ◌&&◌, ◌||◌, cond, eqb, ltb, Option, Some, None}
+use Rattle.numbers.specs.declared.C64.{C64}
 use Rattle.numbers.specs.Complex.{one_number, conjugate}
 use Rattle.lattice.specs.Grid.{n_of, place_on, moved_to, index_of, at_of}
 use Rattle.lattice.specs.Lattice.{edges_of, is_wall, FullLattice}
@@ -8,31 +9,34 @@ use Rattle.lattice.specs.declared.grid.Position.{Position}
 use Rattle.lattice.specs.declared.lattice.Edges.{Edges}
 use Rattle.lattice.specs.declared.lattice.Edges.TheVariants.{Pml, Bloch}
 use Rattle.lattice.specs.declared.neighbours.Arrival.{Arrival}
-use Rattle.lattice.specs.declared.neighbours.Arrival.TheVariants.{To, Beyond}
+
+-- there, with that factor
+abbrev pub to_place : ℕ → C64 → Option Arrival
+to_place m phase = Some (record { at = m; phase = phase })
 
 -- past the last place: nothing behind a wall; on a Bloch axis the first place, with the phase p
-abbrev pub past_high : Edges → Arrival
-past_high Pml = Beyond
-past_high (Bloch p) = To 0 p
+abbrev pub past_high : Edges → Option Arrival
+past_high Pml = None
+past_high (Bloch p) = to_place 0 p
 
 -- before the first place of n: nothing behind a wall; on a Bloch axis the last place, with the conjugate of p
-abbrev pub past_low : Edges → ℕ → Arrival
-past_low Pml n = Beyond
-past_low (Bloch p) n = To (n - 1) (conjugate p)
+abbrev pub past_low : Edges → ℕ → Option Arrival
+past_low Pml n = None
+past_low (Bloch p) n = to_place (n - 1) (conjugate p)
 
 -- a step from place m of n; its factor is (1, 0) inside the lattice
-unfoldable pub shifted : Edges → ℕ → ℕ → Bool → Arrival
+unfoldable pub shifted : Edges → ℕ → ℕ → Bool → Option Arrival
 shifted e n m up =
     cond up
-    (cond (ltb (m + 1) n) (To (m + 1) one_number) (past_high e))
-    (cond (eqb m 0) (past_low e n) (To (m - 1) one_number))
+    (cond (ltb (m + 1) n) (to_place (m + 1) one_number) (past_high e))
+    (cond (eqb m 0) (past_low e n) (to_place (m - 1) one_number))
 
 -- the same of a position: the number of the neighbour along axis a, and the phase there
-abbrev pub arrived : FullLattice → Position → ℕ → Arrival → Arrival
-arrived l p a Beyond = Beyond
-arrived l p a (To m phase) = To (index_of l.grid (moved_to p a m)) phase
+abbrev pub arrived : FullLattice → Position → ℕ → Option Arrival → Option Arrival
+arrived l p a None = None
+arrived l p a (Some s) = to_place (index_of l.grid (moved_to p a s.at)) s.phase
 
-unfoldable pub neighbour_of : FullLattice → Position → ℕ → Bool → Arrival
+unfoldable pub neighbour_of : FullLattice → Position → ℕ → Bool → Option Arrival
 neighbour_of l p a up = arrived l p a (shifted (edges_of l a) (n_of l.grid a) (place_on p a) up)
 
 -- place 0 of a wall axis

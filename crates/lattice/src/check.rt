@@ -1,35 +1,22 @@
 // The checks of the setup's input: refusals 1 to 4.
 
-ghost use Rattle.std.specs.Prelude.{◌≡◌, ◌+◌, ◌*◌, ◌≤◌, ◌<◌, length, [], ◌∷◌};
+ghost use Rattle.std.specs.Prelude.{IfSome, ◌≡◌, ◌+◌, ◌*◌, ◌≤◌, ◌<◌, length, [], ◌∷◌};
 ghost use Rattle.lattice.specs.Grid.{Limits, unknowns_of};
 ghost use Rattle.lattice.specs.Lattice.{Lengths};
-ghost use Rattle.lattice.specs.Check.{verdict_of, bad_cells, check_grid, bad_length, bad_number, bad_phase, check_scalars, given, stretches, check_lengths, first_bad, check_entries, check_of, check_stretches, and_then, is_sound};
+ghost use Rattle.lattice.specs.Check.{verdict_of, bad_cells, check_grid, bad_length, bad_number, bad_phase, check_scalars, given, stretches, check_lengths, first_bad, check_entries, check_of, check_stretches, and_then, or_count};
 
 use crate::grid;
 use crate::grid::Grid3d;
 use crate::lattice::{Edges, Lattice};
 use numbers::C64;
 
-// What the checks say: sound, or what is refused and where (docs/SPECIFICATION.md, 5, has the numbers).
-#[derive(Clone, Copy)]
-pub enum Checked {
-    Sound,
+// What the checks refuse, and where (docs/SPECIFICATION.md, 5, has the numbers).
+#[derive(Clone, Copy, PartialEq, Eq, Debug)]
+pub enum Refusal {
     Cells(usize),
     Scalar(usize),
     Length(usize),
     Entry(usize),
-}
-
-pub fn is_sound(c: Checked) -> bool
-    ensures { result ≡ is_sound (verdict_of c) }
-{
-    match c {
-        Checked::Sound => true,
-        Checked::Cells(_) => false,
-        Checked::Scalar(_) => false,
-        Checked::Length(_) => false,
-        Checked::Entry(_) => false,
-    }
 }
 
 fn bad_cells(n: usize) -> bool
@@ -39,35 +26,35 @@ fn bad_cells(n: usize) -> bool
 }
 
 // Refusal 1.
-pub fn check_grid(g: Grid3d) -> Checked
+pub fn check_grid(g: Grid3d) -> Result<(), Refusal>
     ensures { verdict_of result ≡ check_grid g }
 {
     if bad_cells(g.nx) {
-        return Checked::Cells(0);
+        return Err(Refusal::Cells(0));
     }
     if bad_cells(g.ny) {
-        return Checked::Cells(1);
+        return Err(Refusal::Cells(1));
     }
     if bad_cells(g.nz) {
-        return Checked::Cells(2);
+        return Err(Refusal::Cells(2));
     }
     if 4096 < g.nx * g.ny * g.nz {
-        return Checked::Cells(3);
+        return Err(Refusal::Cells(3));
     }
-    Checked::Sound
+    Ok(())
 }
 
 fn bad_length(x: f64) -> bool
     ensures { result ≡ bad_length x }
 {
-    !(numbers::is_finite_double(x) && 0.0 < x)
+    !(x.is_finite() && 0.0 < x)
 }
 
 // Whether a number is not finite, or zero.
 pub fn bad_number(x: C64) -> bool
     ensures { result ≡ bad_number x }
 {
-    !numbers::is_finite(x) || numbers::is_zero(x)
+    !x.is_finite() || x.is_zero()
 }
 
 fn bad_phase(e: Edges) -> bool
@@ -80,7 +67,7 @@ fn bad_phase(e: Edges) -> bool
 }
 
 // Refusal 2.
-pub fn check_scalars(v: Lattice) -> Checked
+pub fn check_scalars(v: Lattice) -> Result<(), Refusal>
     ensures { verdict_of result ≡ check_scalars v }
 {
     let g = v.grid;
@@ -88,87 +75,80 @@ pub fn check_scalars(v: Lattice) -> Checked
     let y = v.y;
     let z = v.z;
     if bad_length(g.dx) {
-        return Checked::Scalar(0);
+        return Err(Refusal::Scalar(0));
     }
     if bad_length(g.dy) {
-        return Checked::Scalar(1);
+        return Err(Refusal::Scalar(1));
     }
     if bad_length(g.dz) {
-        return Checked::Scalar(2);
+        return Err(Refusal::Scalar(2));
     }
     if bad_length(v.k0) {
-        return Checked::Scalar(3);
+        return Err(Refusal::Scalar(3));
     }
-    if !numbers::is_finite_double(v.shift) {
-        return Checked::Scalar(4);
+    if !v.shift.is_finite() {
+        return Err(Refusal::Scalar(4));
     }
     if bad_phase(x) {
-        return Checked::Scalar(5);
+        return Err(Refusal::Scalar(5));
     }
     if bad_phase(y) {
-        return Checked::Scalar(6);
+        return Err(Refusal::Scalar(6));
     }
     if bad_phase(z) {
-        return Checked::Scalar(7);
+        return Err(Refusal::Scalar(7));
     }
-    Checked::Sound
+    Ok(())
 }
 
-// The first bad number of a list that has n, and n where there is none.
-fn first_bad(xs: &[f64], n: usize) -> usize
+// The first bad number of a list that has n.
+fn first_bad(xs: &[f64], n: usize) -> Option<usize>
     requires { length xs.now ≡ 2 * n }
-    ensures { result ≡ first_bad xs.now n 0 }
+    ensures { (or_count n result ≡ first_bad xs.now n 0) × IfSome result (λ k. k < n) }
 {
-    let mut k = 0;
-    while k < n {
+    for k in 0..n {
         if bad_number(numbers::get(xs, k)) {
-            return k;
+            return Some(k);
         }
-        k += 1;
     }
-    k
+    None
 }
 
 // Refusal 3 of an axis's two lists, which are the lists i and i + 1.
-fn axis_lengths(i: usize, n: usize, nodes: &[f64], halves: &[f64]) -> Checked
+fn axis_lengths(i: usize, n: usize, nodes: &[f64], halves: &[f64]) -> Result<(), Refusal>
     requires { (i < 8) × (n ≤ 64) }
     ensures { verdict_of result ≡ check_lengths i (given n nodes.now ∷ (given n halves.now ∷ [])) }
 {
     if nodes.len() != 2 * n {
-        return Checked::Length(i);
+        return Err(Refusal::Length(i));
     }
     if halves.len() != 2 * n {
-        return Checked::Length(i + 1);
+        return Err(Refusal::Length(i + 1));
     }
-    Checked::Sound
+    Ok(())
 }
 
 // Refusal 4 of an axis's two lists, the first of which starts at a position.
-fn axis_entries(position: usize, n: usize, nodes: &[f64], halves: &[f64]) -> Checked
+fn axis_entries(position: usize, n: usize, nodes: &[f64], halves: &[f64]) -> Result<(), Refusal>
     requires position_bound { (position ≤ 4096) × (n ≤ 64) }
     requires nodes_len { (length nodes.now ≡ 2 * n) × (length halves.now ≡ 2 * n) }
     ensures { verdict_of result ≡ check_entries position (given n nodes.now ∷ (given n halves.now ∷ [])) }
 {
-    let k = first_bad(nodes, n);
-    if k < n {
-        return Checked::Entry(position + k);
+    if let Some(k) = first_bad(nodes, n) {
+        return Err(Refusal::Entry(position + k));
     }
-    let m = first_bad(halves, n);
-    if m < n {
-        return Checked::Entry(position + n + m);
+    if let Some(m) = first_bad(halves, n) {
+        return Err(Refusal::Entry(position + n + m));
     }
-    Checked::Sound
+    Ok(())
 }
 
 // Refusals 1 and 2.
-fn check_lattice(v: Lattice) -> Checked
+fn check_lattice(v: Lattice) -> Result<(), Refusal>
     ensures { verdict_of result ≡ and_then (check_grid v.grid) (check_scalars v) }
 {
-    let c = check_grid(v.grid);
-    if is_sound(c) {
-        return check_scalars(v);
-    }
-    c
+    check_grid(v.grid)?;
+    check_scalars(v)
 }
 
 // Refusal 3 of the six stretch lists.
@@ -180,18 +160,12 @@ fn stretch_lengths(
     yh: &[f64],
     zn: &[f64],
     zh: &[f64],
-) -> Checked
+) -> Result<(), Refusal>
     requires { Limits g }
     ensures { verdict_of result ≡ check_lengths 0 (stretches g xn.now xh.now yn.now yh.now zn.now zh.now) }
 {
-    let a = axis_lengths(0, g.nx, xn, xh);
-    if !is_sound(a) {
-        return a;
-    }
-    let b = axis_lengths(2, g.ny, yn, yh);
-    if !is_sound(b) {
-        return b;
-    }
+    axis_lengths(0, g.nx, xn, xh)?;
+    axis_lengths(2, g.ny, yn, yh)?;
     axis_lengths(4, g.nz, zn, zh)
 }
 
@@ -204,20 +178,14 @@ fn stretch_entries(
     yh: &[f64],
     zn: &[f64],
     zh: &[f64],
-) -> Checked
+) -> Result<(), Refusal>
     requires limits { Limits g }
     requires lengths { Lengths g xn.now yn.now zn.now }
     requires lengths_2 { Lengths g xh.now yh.now zh.now }
     ensures { verdict_of result ≡ check_entries 0 (stretches g xn.now xh.now yn.now yh.now zn.now zh.now) }
 {
-    let a = axis_entries(0, g.nx, xn, xh);
-    if !is_sound(a) {
-        return a;
-    }
-    let b = axis_entries(2 * g.nx, g.ny, yn, yh);
-    if !is_sound(b) {
-        return b;
-    }
+    axis_entries(0, g.nx, xn, xh)?;
+    axis_entries(2 * g.nx, g.ny, yn, yh)?;
     axis_entries(2 * g.nx + 2 * g.ny, g.nz, zn, zh)
 }
 
@@ -230,43 +198,36 @@ pub fn check_stretches(
     yh: &[f64],
     zn: &[f64],
     zh: &[f64],
-) -> Checked
+) -> Result<(), Refusal>
     ensures { verdict_of result ≡ check_stretches v xn.now xh.now yn.now yh.now zn.now zh.now }
 {
-    let a = check_lattice(v);
-    if !is_sound(a) {
-        return a;
-    }
-    let b = stretch_lengths(v.grid, xn, xh, yn, yh, zn, zh);
-    if !is_sound(b) {
-        return b;
-    }
+    check_lattice(v)?;
+    stretch_lengths(v.grid, xn, xh, yn, yh, zn, zh)?;
     stretch_entries(v.grid, xn, xh, yn, yh, zn, zh)
 }
 
 // Refusal 3 of the permittivities, which are list 6, one number for each edge.
-fn eps_length(g: Grid3d, eps: &[f64]) -> Checked
+fn eps_length(g: Grid3d, eps: &[f64]) -> Result<(), Refusal>
     requires { Limits g }
     ensures { verdict_of result ≡ check_lengths 6 (given (unknowns_of g) eps.now ∷ []) }
 {
     if eps.len() != 2 * grid::unknowns(g) {
-        return Checked::Length(6);
+        return Err(Refusal::Length(6));
     }
-    Checked::Sound
+    Ok(())
 }
 
 // Refusal 4 of the permittivities, which start behind the six stretch lists.
-fn eps_entries(g: Grid3d, eps: &[f64]) -> Checked
+fn eps_entries(g: Grid3d, eps: &[f64]) -> Result<(), Refusal>
     requires limits { Limits g }
     requires eps_len { length eps.now ≡ 2 * unknowns_of g }
     ensures { verdict_of result ≡ check_entries (2 * g.nx + 2 * g.ny + 2 * g.nz) (given (unknowns_of g) eps.now ∷ []) }
 {
     let n = grid::unknowns(g);
-    let k = first_bad(eps, n);
-    if k < n {
-        return Checked::Entry(2 * g.nx + 2 * g.ny + 2 * g.nz + k);
+    if let Some(k) = first_bad(eps, n) {
+        return Err(Refusal::Entry(2 * g.nx + 2 * g.ny + 2 * g.nz + k));
     }
-    Checked::Sound
+    Ok(())
 }
 
 // The setup's input: refusals 1 to 4.
@@ -279,24 +240,12 @@ pub fn check(
     zn: &[f64],
     zh: &[f64],
     eps: &[f64],
-) -> Checked
+) -> Result<(), Refusal>
     ensures { verdict_of result ≡ check_of v xn.now xh.now yn.now yh.now zn.now zh.now eps.now }
 {
-    let a = check_lattice(v);
-    if !is_sound(a) {
-        return a;
-    }
-    let b = stretch_lengths(v.grid, xn, xh, yn, yh, zn, zh);
-    if !is_sound(b) {
-        return b;
-    }
-    let c = eps_length(v.grid, eps);
-    if !is_sound(c) {
-        return c;
-    }
-    let d = stretch_entries(v.grid, xn, xh, yn, yh, zn, zh);
-    if !is_sound(d) {
-        return d;
-    }
+    check_lattice(v)?;
+    stretch_lengths(v.grid, xn, xh, yn, yh, zn, zh)?;
+    eps_length(v.grid, eps)?;
+    stretch_entries(v.grid, xn, xh, yn, yh, zn, zh)?;
     eps_entries(v.grid, eps)
 }

@@ -3,7 +3,8 @@
 
 ghost use Rattle.std.specs.Prelude.{◌≡◌, ◌<◌};
 ghost use Rattle.lattice.specs.Lattice.{full_lattice};
-ghost use Rattle.lattice.specs.Grid.{unknowns_of, Limits, Inside};
+ghost use Rattle.numbers.specs.Complex.{real_over, real_times};
+ghost use Rattle.lattice.specs.Grid.{step_of, unknowns_of, Limits, Inside};
 ghost use Rattle.numbers.specs.Terms.{Wrote};
 ghost use Rattle.lattice.specs.Curls.{half_weight, node_weight, term_to, term_here, ahead as ahead_of, behind as behind_of, curl_e, curl_h, divergence_of, free_nodes, gradient_of};
 
@@ -13,43 +14,60 @@ use crate::neighbours::Arrival;
 use crate::{grid, lattice, neighbours};
 use numbers::{C64, terms};
 
-// The weight of a difference along an axis, across a cell.
+// The weight of a difference along an axis whose stretch there is s.
+fn weight(l: Lattice, axis: usize, sign: f64, s: C64) -> C64
+    ensures { result ≡ real_over sign (real_times (step_of l.grid axis) s) }
+{
+    sign / (grid::step(l.grid, axis) * s)
+}
+
+// The weight across a cell.
+#[tactic(auto, using(crate::proofs::GridLaws::place_low), unfolding(crate::specs::Curls::half_weight))]
 fn half_weight(l: Lattice, st: &[f64], p: Position, axis: usize, sign: f64) -> C64
     requires limits { Limits l.grid }
     requires inside { Inside l.grid p }
     requires axis_bound { axis < 3 }
     ensures { result ≡ half_weight (full_lattice l st.now) p axis sign }
 {
-    let s = lattice::half(l, st, axis, grid::place_on(p, axis));
-    numbers::real_over(sign, numbers::real_times(grid::step(l.grid, axis), s))
+    weight(
+        l,
+        axis,
+        sign,
+        lattice::half(l, st, axis, grid::place_on(p, axis)),
+    )
 }
 
-// The weight of a difference along an axis, across a node's dual cell.
+// The weight across a node's dual cell.
+#[tactic(auto, using(crate::proofs::GridLaws::place_low), unfolding(crate::specs::Curls::node_weight))]
 fn node_weight(l: Lattice, st: &[f64], p: Position, axis: usize, sign: f64) -> C64
     requires limits { Limits l.grid }
     requires inside { Inside l.grid p }
     requires axis_bound { axis < 3 }
     ensures { result ≡ node_weight (full_lattice l st.now) p axis sign }
 {
-    let s = lattice::node(l, st, axis, grid::place_on(p, axis));
-    numbers::real_over(sign, numbers::real_times(grid::step(l.grid, axis), s))
+    weight(
+        l,
+        axis,
+        sign,
+        lattice::node(l, st, axis, grid::place_on(p, axis)),
+    )
 }
 
 // The term of a neighbour at place k: none beyond a wall.
-fn push_to(to: Arrival, w: C64, k: usize, columns: &mut [usize], values: &mut [f64]) -> usize
+fn push_to(
+    to: Option<Arrival>,
+    w: C64,
+    k: usize,
+    columns: &mut [usize],
+    values: &mut [f64],
+) -> usize
     requires { k < 64 }
     ensures { Wrote columns.old values.old k (term_to to w) columns.new values.new result }
 {
-    match to {
-        Arrival::Beyond => k,
-        Arrival::To(column, phase) => terms::push(
-            columns,
-            values,
-            k,
-            column,
-            numbers::mul(w, phase),
-        ),
-    }
+    let Some(to) = to else {
+        return k;
+    };
+    terms::push(columns, values, k, to.at, w * to.phase)
 }
 
 // The term of a position of a component at place k.
@@ -95,10 +113,10 @@ fn ahead(
     let w = half_weight(l, st, p, along, sign);
     let to = neighbours::neighbour(l, st, grid::with_component(p, field), along, true);
     let k1 = push_to(to, w, k, columns, values);
-    push_here(l, st, p, field, numbers::neg(w), k1, columns, values)
+    push_here(l, st, p, field, -w, k1, columns, values)
 }
 
-// The difference of a field along an axis at an edge or a node: here, then behind.
+// The difference of a field along an axis at an edge or a node: here, then behind. Order, weight, way and sign differ from `ahead`: one function would test four times.
 fn behind(
     l: Lattice,
     st: &[f64],
@@ -120,7 +138,7 @@ fn behind(
     let w = node_weight(l, st, p, along, sign);
     let k1 = push_here(l, st, p, field, w, k, columns, values);
     let to = neighbours::neighbour(l, st, grid::with_component(p, field), along, false);
-    push_to(to, numbers::neg(w), k1, columns, values)
+    push_to(to, -w, k1, columns, values)
 }
 
 // The terms of curl E at face r; a fixed edge has its term too.
@@ -136,7 +154,7 @@ pub fn curl_e(l: Lattice, st: &[f64], r: usize, columns: &mut [usize], values: &
     ahead(l, st, p, c, b, -1.0, k, columns, values)
 }
 
-// The terms of curl H at edge r.
+// The terms of curl H at edge r: `curl_e` with `behind`. A closure in its place would take nine arguments, for these two lines.
 pub fn curl_h(l: Lattice, st: &[f64], r: usize, columns: &mut [usize], values: &mut [f64]) -> usize
     requires limits { Limits l.grid }
     requires r_bound { r < unknowns_of l.grid }
@@ -171,7 +189,7 @@ pub fn divergence(
 fn push_free_node(
     l: Lattice,
     st: &[f64],
-    to: Arrival,
+    to: Option<Arrival>,
     w: C64,
     k: usize,
     columns: &mut [usize],
@@ -181,15 +199,13 @@ fn push_free_node(
     requires k_bound { k < 64 }
     ensures { Wrote columns.old values.old k (free_nodes (full_lattice l st.now) (term_to to w)) columns.new values.new result }
 {
-    match to {
-        Arrival::Beyond => k,
-        Arrival::To(q, phase) => {
-            if neighbours::node_fixed(l, st, q) {
-                return k;
-            }
-            terms::push(columns, values, k, q, numbers::mul(w, phase))
-        }
+    let Some(to) = to else {
+        return k;
+    };
+    if neighbours::node_fixed(l, st, to.at) {
+        return k;
     }
+    terms::push(columns, values, k, to.at, w * to.phase)
 }
 
 // The term of the node at a position, at place k, if that node is not fixed.
@@ -231,5 +247,5 @@ pub fn gradient(
     let w = half_weight(l, st, p, p.component, 1.0);
     let to = neighbours::neighbour(l, st, grid::with_component(p, 0), p.component, true);
     let k = push_free_node(l, st, to, w, 0, columns, values);
-    push_free_here(l, st, p, numbers::neg(w), k, columns, values)
+    push_free_here(l, st, p, -w, k, columns, values)
 }

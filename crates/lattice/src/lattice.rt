@@ -30,16 +30,11 @@ pub struct Lattice {
 }
 
 // The kind of an axis.
+#[tactic(auto, unfolding(crate::specs::Lattice::edges_of))]
 pub fn edges_on(l: Lattice, st: &[f64], axis: usize) -> Edges
     ensures { result ≡ edges_of (full_lattice l st.now) axis }
 {
-    if axis == 0 {
-        return l.x;
-    }
-    if axis == 1 {
-        return l.y;
-    }
-    l.z
+    grid::axis3(axis, l.x, l.y, l.z)
 }
 
 pub fn is_wall(e: Edges) -> bool
@@ -52,6 +47,7 @@ pub fn is_wall(e: Edges) -> bool
 }
 
 // The stretch at node m of an axis. `requires`: such a node's place in the list.
+#[tactic(auto, using(crate::proofs::LatticeLaws::node_is))]
 pub fn node(l: Lattice, st: &[f64], axis: usize, m: usize) -> C64
     requires axis_bound { axis < 3 }
     requires m_bound { m < 64 }
@@ -61,6 +57,7 @@ pub fn node(l: Lattice, st: &[f64], axis: usize, m: usize) -> C64
 }
 
 // The stretch half a step after node m of an axis, in the middle of the cell that begins there.
+#[tactic(auto, using(crate::proofs::LatticeLaws::half_is))]
 pub fn half(l: Lattice, st: &[f64], axis: usize, m: usize) -> C64
     requires axis_bound { axis < 3 }
     requires m_bound { m < 64 }
@@ -77,15 +74,9 @@ fn stretch(g: Grid3d, xs: &[f64], ys: &[f64], zs: &[f64], q: usize) -> C64
     let axis = q / 64;
     let m = q % 64;
     if m < grid::n(g, axis) {
-        if axis == 0 {
-            return numbers::get(xs, m);
-        }
-        if axis == 1 {
-            return numbers::get(ys, m);
-        }
-        return numbers::get(zs, m);
+        return numbers::get(grid::axis3(axis, xs, ys, zs), m);
     }
-    numbers::zero()
+    C64::zero()
 }
 
 // The stretches of three lists, laid over a list from number `from` on.
@@ -94,6 +85,7 @@ fn lay_stretches(g: Grid3d, xs: &[f64], ys: &[f64], zs: &[f64], from: usize, out
     requires from_le_node_places { from ≤ node_places }
     ensures { LaidStretches (stretch_at g xs.now ys.now zs.now) from node_places out.old out.new }
 {
+    // A number, not an index of a list: it says which axis and which node, and each of the list's numbers is two doubles.
     for q in 0..192 {
         numbers::put(out, from + q, stretch(g, xs, ys, zs, q));
     }

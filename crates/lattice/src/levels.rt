@@ -4,20 +4,13 @@ ghost use Rattle.std.specs.Prelude.{◌≡◌, ◌+◌, ◌*◌, ◌<◌};
 ghost use Rattle.lattice.specs.Lattice.{full_lattice};
 ghost use Rattle.lattice.specs.Grid.{Limits};
 ghost use Rattle.lattice.specs.Line.{Held};
+ghost use Rattle.lattice.specs.declared.levels.Refusal.TheVariants.{Input};
 ghost use Rattle.lattice.specs.Levels.{target as target_of, maps_of, three_at, coarser_three, three_edges, same_cells, no_line, Joined, Answered};
 
-use crate::check::Checked;
 use crate::lattice::Lattice;
 use crate::line::Line;
 use crate::{check, lattice, line, stretched};
 use numbers::C64;
-
-// How many levels the loop makes: at most 12.
-#[derive(Clone, Copy)]
-pub enum Depth {
-    Levels(usize),
-    TooMany,
-}
 
 // The lines of one level.
 #[derive(Clone, Copy)]
@@ -35,24 +28,33 @@ pub struct Maps {
     pub z: [C64; 129],
 }
 
-// The lines of all levels: that of axis a on level L is number 3 L + a. Beyond the levels, and after a refusal, lines of no cells.
+// How many levels the loop makes, none if more than 12, and the lines of all levels: that of axis a on level L is number 3 L + a. Beyond the levels lines of no
+// cells.
 #[derive(Clone, Copy)]
 pub struct Lines {
-    pub depth: Depth,
+    pub depth: Option<usize>,
     pub lines: [Line; 36],
 }
 
-// What the levels' lines are answered with: the level count, or what is refused.
-#[derive(Clone, Copy)]
-pub enum Answer {
-    Levels(usize),
-    Refused(Checked),
+// What the levels' lines are refused for: refusals 1 to 4 of the input, or 5.
+#[derive(Clone, Copy, PartialEq, Eq, Debug)]
+pub enum Refusal {
+    Input(check::Refusal),
     TooMany,
 }
 
+impl From<check::Refusal> for Refusal {
+    ghost from_gives = { λ c r. r ≡ Input c };
+
+    fn from(c: check::Refusal) -> Refusal {
+        Refusal::Input(c)
+    }
+}
+
+// The level count or a refusal, and the lines; after a refusal lines of no cells.
 #[derive(Clone, Copy)]
 pub struct LevelLines {
-    pub answer: Answer,
+    pub answer: Result<usize, Refusal>,
     pub lines: [Line; 36],
 }
 
@@ -162,21 +164,21 @@ pub fn join_lines(l: Lattice, st: &[f64], coarsest: usize) -> Lines
         lines[3 * level + 2] = c;
         if edges(t) <= coarsest {
             return Lines {
-                depth: Depth::Levels(level + 1),
+                depth: Some(level + 1),
                 lines,
             };
         }
         let next = coarser(t, m, target(level));
         if same_cells(next, t) {
             return Lines {
-                depth: Depth::Levels(level + 1),
+                depth: Some(level + 1),
                 lines,
             };
         }
         t = next;
     }
     Lines {
-        depth: Depth::TooMany,
+        depth: None,
         lines: [none; 36],
     }
 }
@@ -194,25 +196,17 @@ pub fn levels(
 ) -> LevelLines
     ensures { Answered v xn.now xh.now yn.now yh.now zn.now zh.now coarsest result }
 {
-    let c = check::check_stretches(v, xn, xh, yn, yh, zn, zh);
-    if !check::is_sound(c) {
+    if let Err(c) = check::check_stretches(v, xn, xh, yn, yh, zn, zh) {
         return LevelLines {
-            answer: Answer::Refused(c),
+            answer: Err(Refusal::from(c)),
             lines: [no_line(); 36],
         };
     }
     let st = lattice::stretches(v, xn, xh, yn, yh, zn, zh);
     let found = join_lines(v, &st, coarsest);
-    let depth = found.depth;
     let lines = found.lines;
-    match depth {
-        Depth::Levels(n) => LevelLines {
-            answer: Answer::Levels(n),
-            lines,
-        },
-        Depth::TooMany => LevelLines {
-            answer: Answer::TooMany,
-            lines,
-        },
+    LevelLines {
+        answer: found.depth.ok_or(Refusal::TooMany),
+        lines,
     }
 }

@@ -1,12 +1,13 @@
 // Row r of the operator, term by term in the order pushed, with repeated columns.
 // `requires` of all of them: a grid within the limits, one of its edges, and a permittivity for each edge.
 
-ghost use Rattle.std.specs.Prelude.{◌≡◌, ◌+◌, ◌*◌, ◌<◌, ◌≤◌, length, take};
+ghost use Rattle.std.specs.Prelude.{◌≡◌, ℕ, ◌+◌, ◌*◌, ◌<◌, ◌≤◌, List, length};
 ghost use Rattle.numbers.specs.Places.{number_at};
 ghost use Rattle.lattice.specs.Lattice.{full_lattice};
 ghost use Rattle.lattice.specs.Grid.{unknowns_of, Limits};
-ghost use Rattle.numbers.specs.Terms.{Wrote, Below, terms_in};
+ghost use Rattle.numbers.specs.Terms.{Term, Wrote, Below, terms_in};
 ghost use Rattle.numbers.specs.Lists.{each};
+ghost use Rattle.lattice.specs.Calls.{Lays, MayLay};
 ghost use Rattle.lattice.specs.Rows.{face_term, face_terms, curl_curl, free_of, free_sum, mean, node_eps, node_term, node_terms, grad_div, row_into};
 
 use crate::lattice::Lattice;
@@ -34,36 +35,28 @@ fn push_face_term(
     if neighbours::fixed(l, st, column) {
         return k;
     }
-    terms::push(
-        columns,
-        values,
-        k,
-        column,
-        numbers::mul(numbers::neg(wh), we),
-    )
+    terms::push(columns, values, k, column, -wh * we)
 }
 
-// The same of the first n terms of two lists.
-fn push_face_terms(
-    l: Lattice,
-    st: &[f64],
-    wh: C64,
-    n: usize,
+// What `push` lays for each term of two lists, one behind another from place `from` on.
+fn push_each<F: Fn(usize, C64, usize, &mut [usize], &mut [f64]) -> usize>(
     cs: &[usize],
     xs: &[f64],
     from: usize,
     columns: &mut [usize],
     values: &mut [f64],
+    push: F,
 ) -> usize
-    requires limits { Limits l.grid }
-    requires n_in_bounds { (n ≤ length cs.now) × (2 * n ≤ length xs.now) }
-    requires n_bound { from + n < 64 }
-    ensures { Wrote columns.old values.old from (each (face_term (full_lattice l st.now) wh) (terms_in cs.now
-        xs.now 0 n)) columns.new values.new result }
+    requires room { 2 * length cs.now ≤ length xs.now }
+    requires callable { (f : Term → List Term) × (most : ℕ) × Lays (F.post push) f × ((t : Term) → length (f t) ≤ most) × MayLay
+        (F.pre push) cs.now xs.now from most }
+    ensures { (f : Term → List Term) → Lays (F.post push) f → Wrote columns.old values.old from (each f (terms_in cs.now
+        xs.now 0 (length cs.now))) columns.new values.new result }
 {
     let mut k = from;
-    for m in 0..n {
-        k = push_face_term(l, st, wh, cs[m], numbers::get(xs, m), k, columns, values);
+    // An index: each number is two doubles, which a zip would split.
+    for (m, column) in cs.iter().enumerate() {
+        k = push(*column, numbers::get(xs, m), k, columns, values);
     }
     k
 }
@@ -87,32 +80,14 @@ fn face_terms(
     let mut cs = [0usize; 4];
     let mut xs = [0.0; 8];
     let n = curls::curl_e(l, st, face, &mut cs, &mut xs);
-    push_face_terms(l, st, wh, n, &cs, &xs, k, columns, values)
-}
-
-// The terms of the first n faces of two lists.
-fn push_faces(
-    l: Lattice,
-    st: &[f64],
-    n: usize,
-    cs: &[usize],
-    xs: &[f64],
-    from: usize,
-    columns: &mut [usize],
-    values: &mut [f64],
-) -> usize
-    requires limits { Limits l.grid }
-    requires n_in_bounds { (n ≤ length cs.now) × (2 * n ≤ length xs.now) }
-    requires below { Below (unknowns_of l.grid) cs.now n }
-    requires n_bound { from + 4 * n < 64 }
-    ensures { Wrote columns.old values.old from (each (face_terms (full_lattice l st.now)) (terms_in cs.now
-        xs.now 0 n)) columns.new values.new result }
-{
-    let mut k = from;
-    for m in 0..n {
-        k = face_terms(l, st, cs[m], numbers::get(xs, m), k, columns, values);
-    }
-    k
+    push_each(
+        &cs[..n],
+        &xs,
+        k,
+        columns,
+        values,
+        |column, we, k, columns, values| push_face_term(l, st, wh, column, we, k, columns, values),
+    )
 }
 
 // Row r of - curl curl, from place k on.
@@ -132,7 +107,14 @@ pub fn curl_curl_into(
     let mut cs = [0usize; 4];
     let mut xs = [0.0; 8];
     let n = curls::curl_h(l, st, r, &mut cs, &mut xs);
-    push_faces(l, st, n, &cs, &xs, k, columns, values)
+    push_each(
+        &cs[..n],
+        &xs,
+        k,
+        columns,
+        values,
+        |face, wh, k, columns, values| face_terms(l, st, face, wh, k, columns, values),
+    )
 }
 
 // ---- the permittivity at a node
@@ -144,20 +126,19 @@ pub struct Sum {
     pub count: usize,
 }
 
-// The sum of the permittivities of those of the first n edges of a list that are not fixed.
-fn sum_free(l: Lattice, st: &[f64], eps: &[f64], n: usize, cs: &[usize]) -> Sum
+// The sum of the permittivities of those of some edges that are not fixed.
+fn sum_free(l: Lattice, st: &[f64], eps: &[f64], cs: &[usize]) -> Sum
     requires limits { Limits l.grid }
-    requires n_in_bounds { (n ≤ length cs.now) × (n < 64) }
-    requires below { Below (unknowns_of l.grid) cs.now n }
+    requires few { length cs.now < 64 }
+    requires below { Below (unknowns_of l.grid) cs.now (length cs.now) }
     requires grid_in_bounds { 2 * unknowns_of l.grid ≤ length eps.now }
-    ensures { result ≡ free_sum (full_lattice l st.now) (number_at eps.now) (take n cs.now) }
+    ensures { result ≡ free_sum (full_lattice l st.now) (number_at eps.now) cs.now }
 {
-    let mut total = numbers::zero();
+    let mut total = C64::zero();
     let mut count = 0;
-    for m in 0..n {
-        let c = cs[m];
-        if !neighbours::fixed(l, st, c) {
-            total = numbers::add(total, numbers::get(eps, c));
+    for c in cs {
+        if !neighbours::fixed(l, st, *c) {
+            total = total + numbers::get(eps, *c);
             count += 1;
         }
     }
@@ -165,19 +146,19 @@ fn sum_free(l: Lattice, st: &[f64], eps: &[f64], n: usize, cs: &[usize]) -> Sum
 }
 
 // Their mean: 1 where every edge is fixed.
-fn mean_free(l: Lattice, st: &[f64], eps: &[f64], n: usize, cs: &[usize]) -> C64
+fn mean_free(l: Lattice, st: &[f64], eps: &[f64], cs: &[usize]) -> C64
     requires limits { Limits l.grid }
-    requires n_in_bounds { (n ≤ length cs.now) × (n < 64) }
-    requires below { Below (unknowns_of l.grid) cs.now n }
+    requires few { length cs.now < 64 }
+    requires below { Below (unknowns_of l.grid) cs.now (length cs.now) }
     requires grid_in_bounds { 2 * unknowns_of l.grid ≤ length eps.now }
-    ensures { result ≡ mean (number_at eps.now) (free_of (full_lattice l st.now) (take n cs.now)) }
+    ensures { result ≡ mean (number_at eps.now) (free_of (full_lattice l st.now) cs.now) }
 {
-    let s = sum_free(l, st, eps, n, cs);
+    let s = sum_free(l, st, eps, cs);
     if s.count == 0 {
-        return numbers::one();
+        return C64::one();
     }
     let count = s.count;
-    numbers::over_real(s.total, count as f64)
+    s.total / count as f64
 }
 
 // The permittivity at node q.
@@ -190,7 +171,7 @@ pub fn node_eps(l: Lattice, st: &[f64], eps: &[f64], q: usize) -> C64
     let mut cs = [0usize; 6];
     let mut xs = [0.0; 12];
     let n = curls::divergence(l, st, q, &mut cs, &mut xs);
-    mean_free(l, st, eps, n, &cs)
+    mean_free(l, st, eps, &cs[..n])
 }
 
 // ---- the grad-div term
@@ -217,49 +198,9 @@ fn push_node_term(
     if neighbours::fixed(l, st, column) {
         return k;
     }
-    let w = numbers::mul(numbers::real_times(-(-1.0), wg), wd);
-    let v = numbers::mul(numbers::mul(w, numbers::get(eps, column)), inverse);
+    let w = -(-1.0) * wg * wd;
+    let v = w * numbers::get(eps, column) * inverse;
     terms::push(columns, values, k, column, v)
-}
-
-// The same of the first n terms of two lists.
-fn push_node_terms(
-    l: Lattice,
-    st: &[f64],
-    eps: &[f64],
-    wg: C64,
-    inverse: C64,
-    n: usize,
-    cs: &[usize],
-    xs: &[f64],
-    from: usize,
-    columns: &mut [usize],
-    values: &mut [f64],
-) -> usize
-    requires limits { Limits l.grid }
-    requires n_in_bounds { (n ≤ length cs.now) × (2 * n ≤ length xs.now) }
-    requires below { Below (unknowns_of l.grid) cs.now n }
-    requires grid_in_bounds { 2 * unknowns_of l.grid ≤ length eps.now }
-    requires n_bound { from + n < 64 }
-    ensures { Wrote columns.old values.old from (each (node_term (full_lattice l st.now) (number_at eps.now) wg inverse)
-        (terms_in cs.now xs.now 0 n)) columns.new values.new result }
-{
-    let mut k = from;
-    for m in 0..n {
-        k = push_node_term(
-            l,
-            st,
-            eps,
-            wg,
-            inverse,
-            cs[m],
-            numbers::get(xs, m),
-            k,
-            columns,
-            values,
-        );
-    }
-    k
 }
 
 // The terms that a node brings, with the weight that it has in the gradient.
@@ -283,35 +224,18 @@ fn node_terms(
     let mut cs = [0usize; 6];
     let mut xs = [0.0; 12];
     let n = curls::divergence(l, st, q, &mut cs, &mut xs);
-    let inverse = numbers::real_over(1.0, mean_free(l, st, eps, n, &cs));
-    push_node_terms(l, st, eps, wg, inverse, n, &cs, &xs, k, columns, values)
-}
-
-// The terms of the first n nodes of two lists.
-fn push_nodes(
-    l: Lattice,
-    st: &[f64],
-    eps: &[f64],
-    n: usize,
-    cs: &[usize],
-    xs: &[f64],
-    from: usize,
-    columns: &mut [usize],
-    values: &mut [f64],
-) -> usize
-    requires limits { Limits l.grid }
-    requires n_in_bounds { (n ≤ length cs.now) × (2 * n ≤ length xs.now) }
-    requires below { Below (unknowns_of l.grid) cs.now n }
-    requires grid_in_bounds { 2 * unknowns_of l.grid ≤ length eps.now }
-    requires n_bound { from + 6 * n < 64 }
-    ensures { Wrote columns.old values.old from (each (node_terms (full_lattice l st.now) (number_at eps.now))
-        (terms_in cs.now xs.now 0 n)) columns.new values.new result }
-{
-    let mut k = from;
-    for m in 0..n {
-        k = node_terms(l, st, eps, cs[m], numbers::get(xs, m), k, columns, values);
-    }
-    k
+    let edges = &cs[..n];
+    let inverse = 1.0 / mean_free(l, st, eps, edges);
+    push_each(
+        edges,
+        &xs,
+        k,
+        columns,
+        values,
+        |column, wd, k, columns, values| push_node_term(
+            l, st, eps, wg, inverse, column, wd, k, columns, values,
+        ),
+    )
 }
 
 // Row r of the grad-div term, from place k on.
@@ -334,7 +258,14 @@ pub fn grad_div_into(
     let mut cs = [0usize; 2];
     let mut xs = [0.0; 4];
     let n = curls::gradient(l, st, r, &mut cs, &mut xs);
-    push_nodes(l, st, eps, n, &cs, &xs, k, columns, values)
+    push_each(
+        &cs[..n],
+        &xs,
+        k,
+        columns,
+        values,
+        |q, wg, k, columns, values| node_terms(l, st, eps, q, wg, k, columns, values),
+    )
 }
 
 // ---- the row
@@ -355,9 +286,9 @@ pub fn row_into(
         columns.new values.new result }
 {
     if neighbours::fixed(l, st, r) {
-        return terms::push(columns, values, 0, r, numbers::one());
+        return terms::push(columns, values, 0, r, C64::one());
     }
-    let d = numbers::real_times(l.k0 * l.k0, numbers::get(eps, r));
+    let d = l.k0 * l.k0 * numbers::get(eps, r);
     let k = terms::push(columns, values, 0, r, d);
     let k1 = curl_curl_into(l, st, r, k, columns, values);
     grad_div_into(l, st, eps, r, k1, columns, values)

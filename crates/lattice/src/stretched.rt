@@ -1,13 +1,14 @@
 // Both maps of an axis: the stretched coordinate at each half-step of the finest grid.
 
-ghost use Rattle.std.specs.Prelude.{◌≡◌, ◌<◌};
+ghost use Rattle.std.specs.Prelude.{◌≡◌, ℕ, ◌*◌, ◌<◌, ◌≤◌};
 ghost use Rattle.lattice.specs.Lattice.{full_lattice};
 ghost use Rattle.lattice.specs.Grid.{Limits};
-ghost use Rattle.lattice.specs.Stretched.{across_map, along_map, stretched_of};
+ghost use Rattle.lattice.specs.Stretched.{map_list, across_stretch, along_stretch, across_map, along_map, stretched_of};
+ghost use Rattle.numbers.specs.declared.C64.{C64};
 
 use crate::lattice::Lattice;
 use crate::{grid, lattice};
-use numbers::{C64, lists};
+use numbers::C64;
 
 // An axis has two maps: `across` adds up the cells' stretches and places the components across the axis, `along` adds up the nodes' and places the component along it.
 #[derive(Clone, Copy)]
@@ -16,23 +17,51 @@ pub struct Stretched {
     pub along: [C64; 129],
 }
 
+// The map of n cells by a stretch, which it has from half-step p to the next: 0 at 0, and half of the stretch more at each half-step.
+fn map_by<F: Fn(usize) -> C64>(n: usize, stretch: F) -> [C64; 129]
+    requires n_bound { n ≤ 64 }
+    requires callable { (p : ℕ) → p < 2 * n → F.pre stretch p }
+    ensures { (s : ℕ → C64) → ((p : ℕ) (v : C64) → p < 2 * n → F.post stretch p v → v ≡ s p) → result ≡ map_list s n }
+{
+    let mut x = [C64::zero(); 129];
+    let mut here = C64::zero();
+    // The half-step itself, which the stretch is asked for.
+    for p in 0..2 * n {
+        here = here + 0.5 * stretch(p);
+        x[p + 1] = here;
+    }
+    x
+}
+
+// The stretch behind half-step p: that of the cell.
+#[tactic(auto, unfolding(crate::specs::Stretched::across_stretch))]
+fn across_stretch(l: Lattice, st: &[f64], axis: usize, p: usize) -> C64
+    requires axis_bound { axis < 3 }
+    requires p_bound { p < 128 }
+    ensures { result ≡ across_stretch (full_lattice l st.now) axis p }
+{
+    lattice::half(l, st, axis, p / 2)
+}
+
+// The stretch behind half-step p: that of the nearest node, the last one at the far end.
+#[tactic(auto, using(crate::proofs::GridLaws::n_some, crate::proofs::GridLaws::n_most), unfolding(crate::specs::Stretched::along_stretch))]
+fn along_stretch(l: Lattice, st: &[f64], axis: usize, p: usize) -> C64
+    requires limits { Limits l.grid }
+    requires axis_bound { axis < 3 }
+    requires p_bound { p < 128 }
+    ensures { result ≡ along_stretch (full_lattice l st.now) axis p }
+{
+    let n = grid::n(l.grid, axis);
+    lattice::node(l, st, axis, ((p + 1) / 2).min(n - 1))
+}
+
 // The map that adds up the cells' stretches.
 pub fn across_map(l: Lattice, st: &[f64], axis: usize) -> [C64; 129]
     requires limits { Limits l.grid }
     requires axis_bound { axis < 3 }
     ensures { result ≡ across_map (full_lattice l st.now) axis }
 {
-    let n = grid::n(l.grid, axis);
-    let mut x = [numbers::zero(); 129];
-    let mut here = numbers::zero();
-    for p in 0..2 * n {
-        here = numbers::add(
-            here,
-            numbers::real_times(0.5, lattice::half(l, st, axis, p / 2)),
-        );
-        x[p + 1] = here;
-    }
-    x
+    map_by(grid::n(l.grid, axis), |p| across_stretch(l, st, axis, p))
 }
 
 // The map that adds up the nodes' stretches.
@@ -41,21 +70,11 @@ pub fn along_map(l: Lattice, st: &[f64], axis: usize) -> [C64; 129]
     requires axis_bound { axis < 3 }
     ensures { result ≡ along_map (full_lattice l st.now) axis }
 {
-    let n = grid::n(l.grid, axis);
-    let mut x = [numbers::zero(); 129];
-    let mut here = numbers::zero();
-    for p in 0..2 * n {
-        let m = lists::lesser((p + 1) / 2, n - 1);
-        here = numbers::add(
-            here,
-            numbers::real_times(0.5, lattice::node(l, st, axis, m)),
-        );
-        x[p + 1] = here;
-    }
-    x
+    map_by(grid::n(l.grid, axis), |p| along_stretch(l, st, axis, p))
 }
 
 // Both maps of an axis. `requires`: a lattice within the limits, and one of its axes.
+#[tactic(auto, unfolding(crate::specs::Stretched::stretched_of))]
 pub fn new(l: Lattice, st: &[f64], axis: usize) -> Stretched
     requires limits { Limits l.grid }
     requires axis_bound { axis < 3 }

@@ -2,11 +2,9 @@
 
 #![tactic(auto)]
 
-ghost use Rattle.std.specs.Prelude.{◌<◌, ◌≤◌};
-
-use programs::lines::LevelLine;
+use programs::feed::Lists;
 use programs::reader::Reader;
-use programs::{feed, lines, reader};
+use programs::{lines, reader};
 use std::io;
 use std::io::Read;
 use store::handed::Cells;
@@ -20,120 +18,39 @@ const DOUBLES: usize = 1536;
 
 // ---- printing
 
-fn text(rt: &impl Print, t: &str) -> io::Result<()> {
-    rt.print(t)
-}
-
-fn number(rt: &impl Print, n: usize) -> io::Result<()> {
-    rt.print(n)
-}
-
-fn two(rt: &impl Print, name: &str, a: usize) -> io::Result<()> {
-    print!(rt; "{name} {a}")
-}
-
-fn show_line(rt: &impl Print, l: LevelLine) -> io::Result<()> {
-    println!(rt; "{} {} {} {} {}", l.level, l.x, l.y, l.z, l.weights)
-}
-
-// No setup has more than 12 levels.
-fn least(n: usize) -> usize
-    ensures { result ≤ 12 }
-{
-    if n > 12 {
-        return 12;
-    }
-    n
-}
-
+// The lines of the levels. No setup has more than 12.
 fn show_levels(rt: &impl Print, c: Cells, starts: &[usize], levels: usize) -> io::Result<()> {
-    let n = least(levels);
-    for level in 0..n {
-        show_line(rt, lines::line(c, starts, PLACES, level))?;
+    for level in 0..levels.min(12) {
+        let l = lines::line(c, starts, PLACES, level);
+        println!(rt; "{} {} {} {} {}", l.level, l.x, l.y, l.z, l.weights)?;
     }
     Ok(())
 }
 
 fn show(rt: &impl Print, r: Reader, held: &[f64], starts: &[usize]) -> io::Result<()> {
-    let t = reader::finish(r);
-    if t.number != 0 {
-        two(rt, "refused", t.number)?;
-        text(rt, " ")?;
-        number(rt, t.place)?;
-        return text(rt, "\n");
+    match reader::finish(r) {
+        Ok(levels) => {
+            println!(rt; "levels {levels}")?;
+            show_levels(rt, lines::cells(r, held), starts, levels)
+        }
+        Err(t) => println!(rt; "refused {} {}", t.number, t.place),
     }
-    two(rt, "levels", t.place)?;
-    text(rt, "\n")?;
-    show_levels(rt, lines::cells(r, held), starts, t.place)
 }
 
 // ---- reading
 
-#[derive(Clone, Copy)]
-struct Turn {
-    reader: Reader,
-    go_on: bool,
-}
-
-// The next piece of the input, and whether there was one.
-fn read_some(
-    input: &mut impl Read,
-    r: Reader,
-    held: &mut [f64],
-    ends: &mut [usize],
-    eps: &mut [f64],
-    starts: &mut [usize],
-    columns: &mut [usize],
-    values: &mut [f64],
-    tstarts: &mut [usize],
-    tcolumns: &mut [usize],
-    tvalues: &mut [f64],
-    ostarts: &mut [usize],
-    ocolumns: &mut [usize],
-    ovalues: &mut [f64],
-    scaling: &mut [f64],
-) -> io::Result<Turn> {
+// The whole input. A loop has to end, and nothing says that the input does: no run uses these turns up.
+fn read(input: &mut impl Read, held: &mut [f64], lists: &mut Lists<'_>) -> io::Result<Reader> {
+    let mut r = reader::fresh();
     let mut buf = [0u8; 4096];
-    let n = input.read(&mut buf)?;
-    if n == 0 {
-        return Ok(Turn {
-            reader: r,
-            go_on: false,
-        });
+    for _ in 0..u64::MAX {
+        let n = input.read(&mut buf)?;
+        if n == 0 {
+            break;
+        }
+        r = lists.feed(r, LIMIT, &buf[..n], held);
     }
-    let fed = feed::feed(
-        r,
-        LIMIT,
-        &buf[..n],
-        held,
-        ends,
-        eps,
-        starts,
-        columns,
-        values,
-        tstarts,
-        tcolumns,
-        tvalues,
-        ostarts,
-        ocolumns,
-        ovalues,
-        scaling,
-    );
-    Ok(Turn {
-        reader: fed,
-        go_on: true,
-    })
-}
-
-// A loop has to end, and nothing says that the input does: the turns are counted down from a number that no run uses up.
-fn left(turns: u64, go_on: bool) -> u64
-    requires { 0 < turns }
-    ensures { result < turns }
-{
-    if go_on {
-        return turns - 1;
-    }
-    0
+    Ok(r)
 }
 
 fn main(rt: HostRuntime) -> io::Result<()> {
@@ -150,30 +67,20 @@ fn main(rt: HostRuntime) -> io::Result<()> {
     let mut ocolumns = [0usize; PLACES];
     let mut ovalues = [0.0; DOUBLES];
     let mut scaling = [0.0; DOUBLES];
-    let mut input = rt.stdin();
-    let mut r = reader::fresh();
-    let mut turns = u64::MAX;
-    while turns > 0 {
-        let turn = read_some(
-            &mut input,
-            r,
-            &mut held,
-            &mut ends,
-            &mut eps,
-            &mut starts,
-            &mut columns,
-            &mut values,
-            &mut tstarts,
-            &mut tcolumns,
-            &mut tvalues,
-            &mut ostarts,
-            &mut ocolumns,
-            &mut ovalues,
-            &mut scaling,
-        )?;
-        let next = turn.reader;
-        r = next;
-        turns = left(turns, turn.go_on);
-    }
+    let mut lists = Lists {
+        ends: &mut ends,
+        eps: &mut eps,
+        starts: &mut starts,
+        columns: &mut columns,
+        values: &mut values,
+        tstarts: &mut tstarts,
+        tcolumns: &mut tcolumns,
+        tvalues: &mut tvalues,
+        ostarts: &mut ostarts,
+        ocolumns: &mut ocolumns,
+        ovalues: &mut ovalues,
+        scaling: &mut scaling,
+    };
+    let r = read(&mut rt.stdin(), &mut held, &mut lists)?;
     show(&rt, r, &held, &starts)
 }

@@ -7,7 +7,7 @@ use native.Mathlib.Omega.{arith}
 use mathlib.Core.Path.{◌≡◌, refl, sym, ◌∙◌, ap}
 use mathlib.Core.List.{List, [], ◌∷◌, ◌++◌, append-nil}
 use lib.ListN.{length, get_or, set, take, drop, length-drop, drop_of_length-le}
-use lib.Seq.{take-suc, take_all, drop-length}
+use lib.Seq.{take-suc, take_all, drop-length, drop-drop}
 use lib.Ieee.{Float}
 use Rattle.numbers.specs.declared.C64.{C64}
 use Rattle.numbers.specs.Places.{set_number}
@@ -195,3 +195,16 @@ wrote_part {cs} {ds} {xs} {ys} {n} {a} {b} {r} {ts} e f w =
           ∙ laid_numbers_part n xs (numbers_of ts));
       next = omega (arith, w.next);
     }
+
+-- values laid where the list has room for them: what is before, the values, what is behind
+laid_front : (xs vs : List ℕ) → length vs ≤ length xs → laid xs 0 vs ≡ vs ++ drop (length vs) xs
+unfolding laid_by
+laid_front xs [] h = refl
+laid_front [] (v ∷ vs) h = absurd (omega arith)
+laid_front (x ∷ xs) (v ∷ vs) h = sym (laid_part 1 (v ∷ xs) vs) ∙ ap (λ (ys : List ℕ). v ∷ ys) (laid_front xs vs (omega arith))
+
+pub laid_whole : (xs : List ℕ) (s : ℕ) (vs : List ℕ) → s + length vs ≤ length xs → laid xs s vs ≡ take s xs ++ (vs ++ drop (s + length vs) xs)
+laid_whole xs s vs h =
+    sym (laid_part s xs vs)
+    ∙ ap (λ (ys : List ℕ). take s xs ++ ys)
+    (laid_front (drop s xs) vs (omega (arith, length-drop s xs)) ∙ ap (λ (ys : List ℕ). vs ++ ys) (drop-drop (length vs) s xs))

@@ -11,6 +11,7 @@ use lib.Dec.{ltb}
 use lib.ListN.{length, set, length-set}
 use lib.Seq.{get_or-set_same, get_or-set_other}
 use lib.Ieee.{Float, nan, inf, fin}
+use Rattle.std.specs.Float.{float_is_finite}
 use Rattle.numbers.specs.declared.C64.{C64}
 use Rattle.numbers.specs.Complex.{no_number, finite_double, finite}
 use Rattle.numbers.specs.Places.{places, number_at, set_number, found_at}
@@ -141,3 +142,10 @@ or_left b h = rw h
 pub or_right : (a : Bool) {b : Bool} → b ≡ true → (a || b) ≡ true
 or_right true h = refl
 or_right false h = h
+
+-- std's test of a double
+pub float_finite : (x : Float) → float_is_finite x ≡ finite_double x
+unfolding float_is_finite finite_double
+float_finite nan = refl
+float_finite (inf s) = refl
+float_finite (fin s m e) = refl

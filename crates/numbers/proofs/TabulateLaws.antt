@@ -38,6 +38,13 @@ module _ {A : Type 0} where
       (l ∙ sym (length_tabulate f n 0))
       (λ i b. let b' : i < n = omega arith in h i b' ∙ sym (tabulate_at_0 f n i d b'))
 
+  -- the same from k on
+  pub is_tabulate_from : (f : ℕ → A) (n k : ℕ) (d : A) (xs : List A) → length xs ≡ n → ((i : ℕ) → i < n → get_or xs i d ≡ f (k + i)) → xs ≡ tabulate f n k
+  is_tabulate_from f n k d xs l h =
+      ext_get_or d xs (tabulate f n k)
+      (l ∙ sym (length_tabulate f n k))
+      (λ i b. let b' : i < n = omega arith in h i b' ∙ sym (tabulate_at f n k i d b'))
+
   -- two functions that agree below n
   pub tabulate_agree : (f g : ℕ → A) (n : ℕ) (d : A) → ((i : ℕ) → i < n → f i ≡ g i) → tabulate f n 0 ≡ tabulate g n 0
   tabulate_agree f g n d h =

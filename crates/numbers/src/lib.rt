@@ -4,8 +4,10 @@
 #![tactic(auto)]
 
 ghost use Rattle.std.specs.Prelude.{◌≡◌, ◌+◌, ◌*◌, ◌<◌, length};
-ghost use Rattle.numbers.specs.Complex.{zero_number, one_number, sum, difference, product, squares, quotient, real_over, over_real, real_times, negation, conjugate, one_minus, inverse, finite_double, finite, is_zero};
+ghost use Rattle.numbers.specs.Complex.{zero_number, one_number, sum, difference, product, squares, quotient, real_over, over_real, real_times, negation, conjugate, one_minus, inverse, finite, is_zero};
 ghost use Rattle.numbers.specs.Places.{number_at, set_number, found_at};
+
+use std::ops::{Add, Div, Mul, Neg, Sub};
 
 pub mod collect;
 pub mod lists;
@@ -19,152 +21,192 @@ pub struct C64 {
     pub im: f64,
 }
 
-// (0, 0), where sums start.
-pub fn zero() -> C64
-    ensures { result ≡ zero_number }
-{
-    C64 { re: 0.0, im: 0.0 }
-}
+impl C64 {
+    // (0, 0), where sums start.
+    #[tactic(auto, unfolding(crate::specs::Complex::zero_number))]
+    pub fn zero() -> C64
+        ensures { result ≡ zero_number }
+    {
+        C64 { re: 0.0, im: 0.0 }
+    }
 
-// (1, 0), where products start.
-pub fn one() -> C64
-    ensures { result ≡ one_number }
-{
-    C64 { re: 1.0, im: 0.0 }
-}
+    // (1, 0), where products start.
+    #[tactic(auto, unfolding(crate::specs::Complex::one_number))]
+    pub fn one() -> C64
+        ensures { result ≡ one_number }
+    {
+        C64 { re: 1.0, im: 0.0 }
+    }
 
-pub fn add(x: C64, y: C64) -> C64
-    ensures { result ≡ sum x y }
-{
-    C64 {
-        re: x.re + y.re,
-        im: x.im + y.im,
+    // The sum of the squares of the parts.
+    #[tactic(auto, unfolding(crate::specs::Complex::squares))]
+    pub fn norm_sqr(self) -> f64
+        ensures { result ≡ squares self }
+    {
+        self.re * self.re + self.im * self.im
+    }
+
+    #[tactic(auto, unfolding(crate::specs::Complex::conjugate))]
+    pub fn conj(self) -> C64
+        ensures { result ≡ conjugate self }
+    {
+        C64 {
+            re: self.re,
+            im: -self.im,
+        }
+    }
+
+    #[tactic(auto, unfolding(crate::specs::Complex::one_minus))]
+    pub fn one_minus(self) -> C64
+        ensures { result ≡ one_minus self }
+    {
+        C64 {
+            re: 1.0 - self.re,
+            im: 0.0 - self.im,
+        }
+    }
+
+    #[tactic(auto, unfolding(crate::specs::Complex::inverse))]
+    pub fn inv(self) -> C64
+        ensures { result ≡ inverse self }
+    {
+        let n = self.norm_sqr();
+        C64 {
+            re: self.re / n,
+            im: -self.im / n,
+        }
+    }
+
+    // Both parts finite.
+    pub fn is_finite(self) -> bool
+        ensures { result ≡ finite self }
+    {
+        self.re.is_finite() && self.im.is_finite()
+    }
+
+    // Both parts zero, of either sign.
+    pub fn is_zero(self) -> bool
+        ensures { result ≡ is_zero self }
+    {
+        self.re == 0.0 && self.im == 0.0
     }
 }
 
-pub fn sub(x: C64, y: C64) -> C64
-    ensures { result ≡ difference x y }
-{
-    C64 {
-        re: x.re - y.re,
-        im: x.im - y.im,
+impl Add for C64 {
+    type Output = C64;
+
+    #[tactic(auto, unfolding(crate::specs::Complex::sum))]
+    fn add(self, y: C64) -> C64
+        ensures { result ≡ sum self y }
+    {
+        C64 {
+            re: self.re + y.re,
+            im: self.im + y.im,
+        }
     }
 }
 
-pub fn mul(x: C64, y: C64) -> C64
-    ensures { result ≡ product x y }
-{
-    C64 {
-        re: x.re * y.re - x.im * y.im,
-        im: x.re * y.im + x.im * y.re,
+impl Sub for C64 {
+    type Output = C64;
+
+    #[tactic(auto, unfolding(crate::specs::Complex::difference))]
+    fn sub(self, y: C64) -> C64
+        ensures { result ≡ difference self y }
+    {
+        C64 {
+            re: self.re - y.re,
+            im: self.im - y.im,
+        }
     }
 }
 
-// The sum of the squares of the parts.
-pub fn norm_sqr(y: C64) -> f64
-    ensures { result ≡ squares y }
-{
-    y.re * y.re + y.im * y.im
-}
+impl Mul for C64 {
+    type Output = C64;
 
-pub fn div(x: C64, y: C64) -> C64
-    ensures { result ≡ quotient x y }
-{
-    let n = norm_sqr(y);
-    C64 {
-        re: (x.re * y.re + x.im * y.im) / n,
-        im: (x.im * y.re - x.re * y.im) / n,
+    #[tactic(auto, unfolding(crate::specs::Complex::product))]
+    fn mul(self, y: C64) -> C64
+        ensures { result ≡ product self y }
+    {
+        C64 {
+            re: self.re * y.re - self.im * y.im,
+            im: self.re * y.im + self.im * y.re,
+        }
     }
 }
 
-// A real over a number.
-pub fn real_over(r: f64, y: C64) -> C64
-    ensures { result ≡ real_over r y }
-{
-    let n = norm_sqr(y);
-    C64 {
-        re: r * y.re / n,
-        im: 0.0 - r * y.im / n,
+impl Div for C64 {
+    type Output = C64;
+
+    #[tactic(auto, unfolding(crate::specs::Complex::quotient))]
+    fn div(self, y: C64) -> C64
+        ensures { result ≡ quotient self y }
+    {
+        let n = y.norm_sqr();
+        C64 {
+            re: (self.re * y.re + self.im * y.im) / n,
+            im: (self.im * y.re - self.re * y.im) / n,
+        }
     }
 }
 
-// A number over a real.
-pub fn over_real(x: C64, r: f64) -> C64
-    ensures { result ≡ over_real x r }
-{
-    C64 {
-        re: x.re / r,
-        im: x.im / r,
+impl Neg for C64 {
+    type Output = C64;
+
+    #[tactic(auto, unfolding(crate::specs::Complex::negation))]
+    fn neg(self) -> C64
+        ensures { result ≡ negation self }
+    {
+        C64 {
+            re: -self.re,
+            im: -self.im,
+        }
     }
 }
 
 // A real times a number.
-pub fn real_times(r: f64, x: C64) -> C64
-    ensures { result ≡ real_times r x }
-{
-    C64 {
-        re: r * x.re,
-        im: r * x.im,
+impl Mul<C64> for f64 {
+    type Output = C64;
+
+    #[tactic(auto, unfolding(crate::specs::Complex::real_times))]
+    fn mul(self, y: C64) -> C64
+        ensures { result ≡ real_times self y }
+    {
+        C64 {
+            re: self * y.re,
+            im: self * y.im,
+        }
     }
 }
 
-pub fn neg(x: C64) -> C64
-    ensures { result ≡ negation x }
-{
-    C64 {
-        re: -x.re,
-        im: -x.im,
+// A real over a number.
+impl Div<C64> for f64 {
+    type Output = C64;
+
+    #[tactic(auto, unfolding(crate::specs::Complex::real_over))]
+    fn div(self, y: C64) -> C64
+        ensures { result ≡ real_over self y }
+    {
+        let n = y.norm_sqr();
+        C64 {
+            re: self * y.re / n,
+            im: 0.0 - self * y.im / n,
+        }
     }
 }
 
-pub fn conj(x: C64) -> C64
-    ensures { result ≡ conjugate x }
-{
-    C64 {
-        re: x.re,
-        im: -x.im,
+// A number over a real.
+impl Div<f64> for C64 {
+    type Output = C64;
+
+    #[tactic(auto, unfolding(crate::specs::Complex::over_real))]
+    fn div(self, y: f64) -> C64
+        ensures { result ≡ over_real self y }
+    {
+        C64 {
+            re: self.re / y,
+            im: self.im / y,
+        }
     }
-}
-
-pub fn one_minus(x: C64) -> C64
-    ensures { result ≡ one_minus x }
-{
-    C64 {
-        re: 1.0 - x.re,
-        im: 0.0 - x.im,
-    }
-}
-
-pub fn inv(y: C64) -> C64
-    ensures { result ≡ inverse y }
-{
-    let n = norm_sqr(y);
-    C64 {
-        re: y.re / n,
-        im: -y.im / n,
-    }
-}
-
-// Neither infinite nor NaN.
-pub fn is_finite_double(x: f64) -> bool
-    ensures { result ≡ finite_double x }
-{
-    let top = f64::from_bits(0x7ff0_0000_0000_0000);
-    x < top && -top < x
-}
-
-// Both parts finite.
-pub fn is_finite(x: C64) -> bool
-    ensures { result ≡ finite x }
-{
-    is_finite_double(x.re) && is_finite_double(x.im)
-}
-
-// Both parts zero, of either sign.
-pub fn is_zero(x: C64) -> bool
-    ensures { result ≡ is_zero x }
-{
-    x.re == 0.0 && x.im == 0.0
 }
 
 // Number k of a list. `requires`: the layers above show that the list has it.

@@ -1,50 +1,51 @@
 // Values laid into lent lists, one in each place.
 
-ghost use Rattle.std.specs.Prelude.{◌≡◌, true, false, [], ◌∷◌, ◌+◌, ◌-◌, ◌*◌, ◌<◌, ◌≤◌, ◌^◌, min, length, get_or, set, replicate};
+ghost use Rattle.std.specs.Prelude.{◌≡◌, ℕ, List, true, false, [], ◌∷◌, ◌+◌, ◌-◌, ◌*◌, ◌<◌, ◌≤◌, ◌^◌, length, get_or, set};
 ghost use Rattle.numbers.specs.Places.{set_number, number_at};
-ghost use Rattle.numbers.specs.Lists.{tabulate, Laid, all_finite, any_flag, Marked, places_in, contains as contains_in, repeats as repeats_in};
+ghost use Rattle.numbers.specs.Lists.{tabulate, Laid, all_finite, any_flag, Marked, places_in, repeats as repeats_in};
 ghost use Rattle.numbers.specs.Terms.{Below};
 
 use crate::C64;
 
-// The lesser of two whole numbers.
-pub fn lesser(a: usize, b: usize) -> usize
-    ensures { result ≡ min a b }
-{
-    if a < b {
-        return a;
-    }
-    b
+// What is laid into lent lists: whole numbers into lists of whole numbers, numbers into lists of doubles. Past a list's end it is left out.
+pub trait Entry: Copy {
+    type Place;
+
+    ghost set: { List Self.Place → ℕ → Self → List Self.Place };
+
+    fn put(self, list: &mut [Self::Place], k: usize)
+        ensures { list.new ≡ set list.old k self };
 }
 
-// A whole number at place k; past the list's end it is left out. The place behind it.
-// `requires` of both: a place far from the largest number, as in all lists that can be lent.
-pub fn push(list: &mut [usize], k: usize, v: usize) -> usize
+impl Entry for usize {
+    type Place = usize;
+
+    ghost set = { λ list k v. set list k v };
+
+    fn put(self, list: &mut [usize], k: usize) {
+        if k < list.len() {
+            list[k] = self;
+        }
+    }
+}
+
+impl Entry for C64 {
+    type Place = f64;
+
+    ghost set = { set_number };
+
+    fn put(self, list: &mut [f64], k: usize) {
+        crate::put(list, k, self);
+    }
+}
+
+// An entry at place k. The place behind it. `requires`: a place far from the largest number, as in all lists that can be lent.
+pub fn push<T: Entry>(list: &mut [T::Place], k: usize, v: T) -> usize
     requires { k < 2 ^ 40 }
-    ensures { Laid set list.old k (v ∷ []) list.new result }
+    ensures { Laid T.set list.old k (v ∷ []) list.new result }
 {
-    if k < list.len() {
-        list[k] = v;
-    }
+    v.put(list, k);
     k + 1
-}
-
-pub fn push_number(list: &mut [f64], k: usize, v: C64) -> usize
-    requires { k < 2 ^ 40 }
-    ensures { Laid set_number list.old k (v ∷ []) list.new result }
-{
-    crate::put(list, k, v);
-    k + 1
-}
-
-// Zero in every place.
-pub fn zeros(list: &mut [usize])
-    ensures { list.new ≡ replicate (length list.old) 0 }
-{
-    let n = list.len();
-    for k in 0..n {
-        list[k] = 0;
-    }
 }
 
 // Whether the n numbers from place k on are finite. `requires`: the list has them.
@@ -53,7 +54,7 @@ pub fn finite_numbers(list: &[f64], k: usize, n: usize) -> bool
     ensures { result ≡ all_finite (tabulate (number_at list.now) n k) }
 {
     for m in 0..n {
-        if !crate::is_finite(crate::get(list, k + m)) {
+        if !crate::get(list, k + m).is_finite() {
             return false;
         }
     }
@@ -64,10 +65,7 @@ pub fn finite_numbers(list: &[f64], k: usize, n: usize) -> bool
 pub fn flagged(flags: &[bool], c: usize) -> bool
     ensures { result ≡ get_or flags.now c false }
 {
-    if c < flags.len() {
-        return flags[c];
-    }
-    false
+    flags.get(c).copied().unwrap_or(false)
 }
 
 // Whether one of the n columns from place k on is flagged. `requires`: the list has them.
@@ -75,8 +73,8 @@ pub fn any_flag(flags: &[bool], columns: &[usize], k: usize, n: usize) -> bool
     requires { k + n ≤ length columns.now }
     ensures { result ≡ any_flag flags.now (places_in columns.now k n) }
 {
-    for m in 0..n {
-        if flagged(flags, columns[k + m]) {
+    for &c in &columns[k..k + n] {
+        if flagged(flags, c) {
             return true;
         }
     }
@@ -89,23 +87,9 @@ pub fn mark_each(flags: &mut [bool], columns: &[usize], n: usize)
     requires below { Below (length flags.old) columns.now n }
     ensures { Marked true (places_in columns.now 0 n) flags.old flags.new }
 {
-    for m in 0..n {
-        let c = columns[m];
+    for &c in &columns[..n] {
         flags[c] = true;
     }
-}
-
-// Whether one of the columns from place m to place n - 1 is c.
-fn contains_from(columns: &[usize], m: usize, n: usize, c: usize) -> bool
-    requires { n ≤ length columns.now }
-    ensures { result ≡ contains_in c (places_in columns.now m (n - m)) }
-{
-    for q in m..n {
-        if columns[q] == c {
-            return true;
-        }
-    }
-    false
 }
 
 // Whether a column stands twice among the first n.
@@ -114,7 +98,7 @@ pub fn repeats(columns: &[usize], n: usize) -> bool
     ensures { result ≡ repeats_in (places_in columns.now 0 n) }
 {
     for m in 0..n {
-        if contains_from(columns, m + 1, n, columns[m]) {
+        if columns[m + 1..n].contains(&columns[m]) {
             return true;
         }
     }

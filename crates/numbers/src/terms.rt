@@ -4,6 +4,7 @@ ghost use Rattle.std.specs.Prelude.{◌<◌, ◌^◌, [], ◌∷◌};
 ghost use Rattle.numbers.specs.Terms.{Wrote};
 
 use crate::C64;
+use crate::lists::Entry;
 
 // Where rows that stand in lists begin: their starts, and their columns and numbers.
 #[derive(Clone, Copy)]
@@ -24,9 +25,7 @@ pub fn push(
     requires { k < 64 }
     ensures { Wrote columns.old values.old k (record { column = column; number = number } ∷ []) columns.new values.new result }
 {
-    if k < columns.len() {
-        columns[k] = column;
-    }
-    crate::put(values, k, number);
+    column.put(columns, k);
+    number.put(values, k);
     k + 1
 }

@@ -1,17 +1,19 @@
 -- Laws of the averaged permittivities: the line through two hats, the sums over the hats, what is read, that the lists of nodes and of hats give what
 -- the two levels do, and the whole level.
 -- Assumes nothing.
-use Prim.Native.Nat.{ℕ, suc, ◌+◌, ◌-◌, ◌*◌, ◌<◌, ◌≤◌, ◌^◌}
+use Prim.Native.Nat.{ℕ, zero, suc, ◌+◌, ◌-◌, ◌*◌, ◌<◌, ◌≤◌, ◌^◌}
 use native.Mathlib.Omega.{arith}
 use mathlib.Core.Path.{◌≡◌, refl, sym, ap, ◌∙◌}
 use mathlib.Core.Bool.{Bool}
 use mathlib.Core.List.{List, [], ◌∷◌, Memᴰ as In}
 use lib.Dec.{T}
 use lib.IntN.{pos}
-use lib.ListN.{length, get_or}
+use lib.ListN.{length, get_or, take, drop}
 use lib.Ieee.{Float, binary64, of_int, in_float}
+use lib.Seq.{drop-cons}
+use Rattle.std.proofs.lemmas.List.{at_drop_more, at_drop_all}
 use Rattle.numbers.specs.declared.C64.{C64}
-use Rattle.numbers.specs.Complex.{add_f, mul_f, zero_f, zero_number, sum, real_over, over_real}
+use Rattle.numbers.specs.Complex.{add_f, mul_f, zero_f, zero_number, sum, real_over}
 use Rattle.numbers.specs.Places.{number_at, set_number}
 use Rattle.lattice.specs.declared.grid.Grid3d.{Grid3d}
 use Rattle.lattice.specs.declared.grid.Position.{Position}
@@ -21,7 +23,7 @@ use Rattle.lattice.specs.Lattice.{FullLattice}
 use Rattle.numbers.specs.Lists.{tabulate, summed, each, laid_numbers, all_finite, read_from}
 use Rattle.lattice.proofs.GridLaws.{next_low, last_low, n_most, place_inside, index_below, at_inside, unknowns_most}
 use Rattle.lattice.proofs.RowLaws.{small_float}
-use Rattle.numbers.proofs.TabulateLaws.{length_tabulate, tabulate_agree}
+use Rattle.numbers.proofs.TabulateLaws.{length_tabulate, tabulate_at, tabulate_agree}
 use Rattle.weights.specs.TwoLevels.{TwoLevels, coarse_cells, node_on, fine_grid, coarse_grid, two_of}
 use Rattle.weights.specs.CoarseEps.{edge_along, edges_along, inverted}
 use Rattle.weights.specs.Tables.{node_no, cell_first, cell_last, LineInside, NestedIn, ChainRoom}
@@ -35,6 +37,7 @@ use Rattle.numbers.proofs.Equations.{tabulate_zero, tabulate_suc, read_from_is}
 use Rattle.weights.proofs.Equations.{edge_along_is, edges_along_is, whole_is, cell_first_is, cell_last_is}
 use Rattle.numbers.proofs.ElementLaws.{all_tabulate, each_first, each_later}
 use Rattle.lattice.proofs.PlaceLaws.{moved_across, moved_across_lem}
+use Rattle.operators.specs.declared.averaged.Cell.{Cell}
 use Rattle.operators.specs.declared.averaged.Hat.{Hat}
 use Rattle.operators.specs.declared.averaged.Weighed.{Weighed}
 use Rattle.operators.specs.Averaged.{
@@ -53,10 +56,15 @@ use Rattle.operators.specs.Averaged.{
   averaged_eps,
   hat_lines,
   averaged_reads,
+  no_hat,
   hat_at,
   hats_in,
   Hats,
+  NodesBelow,
   HatsFit,
+  CellReady,
+  CellFits,
+  cell_in,
   hats_by,
   averaged_in,
   averaged_no,
@@ -90,54 +98,26 @@ line_is g f {p} {q} first last h k s {u} {v} {w} m a b c =
     let n : ℕ = last - first in
     rw (c, b, a, ← m.is, whole_is, edges_along_is g q first n, length_tabulate (edge_along g q) n first)
 
--- ---- sums over hats, one behind another: the rest, from hat q on, comes to the whole
-
--- fold adds the hats of a list to a sum by `one`
-pub record Fold (fold : Weighed → List Hat → Weighed) (one : Weighed → Hat → Weighed) : Type 0 where
-  pub end : (s : Weighed) → fold s [] ≡ s
-  pub turn : (s : Weighed) (h : Hat) (hs : List Hat) → fold s (h ∷ hs) ≡ fold (one s h) hs
+-- ---- sums over hats: what the rest, from hat i on, comes to
 
 module _ (g : Grid3d) (f : ℕ → C64) (p : Position) (first n : ℕ) where
-  -- the lines through one hat and a list of hats
-  pub lines_fold : (h : Hat) → Fold (weigh_lines g f p first n h) (weigh_line g f p first n h)
-  unfolding weigh_lines
-  lines_fold h = record { end = λ s. refl; turn = λ s k ks. refl }
+  module _ (h : Hat) (ks : List Hat) (i : ℕ) (s : Weighed) {t : Weighed} (u : weigh_lines g f p first n h s (drop i ks) ≡ t) where
+    pub lines_turn : {s' : Weighed} → i < length ks → s' ≡ weigh_line g f p first n h s (hat_at ks i) → weigh_lines g f p first n h s' (drop (i + 1) ks) ≡ t
+    unfolding weigh_lines
+    lines_turn l e = rw e (sym (at_drop_more (weigh_lines g f p first n h s) ks i no_hat l) ∙ u)
 
-  -- those through each pair of two lists
-  abbrev pub all_lines : List Hat → Weighed → Hat → Weighed
-  all_lines ks s h = weigh_lines g f p first n h s ks
+    pub lines_end : length ks ≤ i → s ≡ t
+    unfolding weigh_lines
+    lines_end l = sym (at_drop_all (weigh_lines g f p first n h s) ks i l) ∙ u
 
-  pub all_fold : (ks : List Hat) → Fold (weigh_all g f p first n ks) (all_lines ks)
-  unfolding weigh_all
-  all_fold ks = record { end = λ s. refl; turn = λ s h hs. refl }
+  module _ (ks hs : List Hat) (i : ℕ) (s : Weighed) {t : Weighed} (u : weigh_all g f p first n ks s (drop i hs) ≡ t) where
+    pub all_turn : {s' : Weighed} → i < length hs → s' ≡ weigh_lines g f p first n (hat_at hs i) s ks → weigh_all g f p first n ks s' (drop (i + 1) hs) ≡ t
+    unfolding weigh_all
+    all_turn l e = rw e (sym (at_drop_more (weigh_all g f p first n ks s) hs i no_hat l) ∙ u)
 
--- q of the n hats from place j on are added, and s has come to s'
-pub record Adding (fold : Weighed → List Hat → Weighed) (ns : List ℕ) (ws : List Float) (j n : ℕ) (s : Weighed) (q : ℕ) (s' : Weighed) : Type 0 where
-  pub same : fold s' (hats_in ns ws (j + q) (n - q)) ≡ fold s (hats_in ns ws j n)
-
-module _ {fold : Weighed → List Hat → Weighed} {ns : List ℕ} {ws : List Float} {j n : ℕ} {s : Weighed} where
-  pub adding_start : {s' : Weighed} → s' ≡ s → Adding fold ns ws j n s 0 s'
-  adding_start e =
-      let a : j + 0 ≡ j = omega arith in
-      let b : n - 0 ≡ n = omega arith in
-      record { same = rw (e, a, b) }
-
-  module _ {one : Weighed → Hat → Weighed} (o : Fold fold one) {q : ℕ} {s' : Weighed} (p : Adding fold ns ws j n s q s') where
-    pub adding_turn : {s'' : Weighed} → q < n → s'' ≡ one s' (hat_at ns ws (j + q)) → Adding fold ns ws j n s (q + 1) s''
-    unfolding hats_in
-    adding_turn h e =
-        let a : n - q ≡ suc (n - (q + 1)) = omega arith in
-        let b : j + (q + 1) ≡ suc (j + q) = omega arith in
-        let r : fold s' (hat_at ns ws (j + q) ∷ tabulate (hat_at ns ws) (n - (q + 1)) (suc (j + q))) ≡ fold s (hats_in ns ws j n) =
-        rw (a, tabulate_suc (hat_at ns ws) (n - (q + 1)) (j + q)) at p.same in
-        record { same = rw (e, b) (sym (o.turn s' (hat_at ns ws (j + q)) (tabulate (hat_at ns ws) (n - (q + 1)) (suc (j + q)))) ∙ r) }
-
-    pub adding_end : n ≤ q → s' ≡ fold s (hats_in ns ws j n)
-    unfolding hats_in
-    adding_end h =
-        let a : n - q ≡ 0 = omega arith in
-        let r : fold s' [] ≡ fold s (hats_in ns ws j n) = rw (a, tabulate_zero (hat_at ns ws) (j + q)) at p.same in
-        sym (o.end s') ∙ r
+    pub all_end : length hs ≤ i → s ≡ t
+    unfolding weigh_all
+    all_end l = sym (at_drop_all (weigh_all g f p first n ks s) hs i l) ∙ u
 
 pub nothing_is : {z : C64} → z ≡ zero_number → ◌≡◌ {A = Weighed} (record { total = z; weight = zero_f }) nothing
 unfolding nothing
@@ -178,10 +158,16 @@ averaged_local t f f' r h =
 abbrev NodeBelow : ℕ → Hat → Type 0
 NodeBelow b h = h.node < b
 
-hats_below : {b j n : ℕ} {ns : List ℕ} {ws : List Float} → HatsFit b j n ns ws → All (NodeBelow b) (hats_in ns ws j n)
-unfolding hats_in hat_at
-hats_below {b} {j} {n} {ns} {ws} d =
-    all_tabulate (hat_at ns ws) n j (λ q a c. let e : q ≡ j + (q - j) = omega arith in rw e (d.nodes_in (q - j) (omega arith)))
+module _ {b j n : ℕ} {xs : List Hat} (d : HatsFit b j n xs) where
+  hats_below : All (NodeBelow b) (hats_in xs j n)
+  unfolding hats_in
+  hats_below = all_tabulate (hat_at xs) n j (λ q a c. let e : q ≡ j + (q - j) = omega arith in rw e (d.nodes_in (q - j) (omega arith)))
+
+  pub fit_below : {hs : List Hat} → hs ≡ hats_in xs j n → NodesBelow b hs
+  unfolding hats_in
+  fit_below e =
+      let l : length (tabulate (hat_at xs) n j) ≡ n = length_tabulate (hat_at xs) n j in
+      rw e (record { below = λ q h. let k : q < n = omega arith in rw (tabulate_at (hat_at xs) n j q no_hat k) (d.nodes_in q k) })
 
 abbrev EdgeOf : Grid3d → ℕ → Type 0
 EdgeOf g c = c < unknowns_of g
@@ -201,69 +187,112 @@ module _ {g : Grid3d} (l : Limits g) (p : Position) (first n : ℕ) (c : p.compo
 
 -- readers that agree on the edges of the grid
 module _ (f f' : ℕ → C64) where
-  averaged_agree : {g : Grid3d} {p : Position} {nn ns : List ℕ} {ws : List Float} {cs : List ℕ} → Limits g → AverageReady g p nn ns ws cs
-      → ((c : ℕ) → c < unknowns_of g → f c ≡ f' c) → averaged_in g nn ns ws cs f p ≡ averaged_in g nn ns ws cs f' p
+  averaged_agree : {g : Grid3d} {p : Position} {nn : List ℕ} {xs : List Hat} {cs : List ℕ} → AverageReady g p nn xs cs
+      → ((c : ℕ) → c < unknowns_of g → f c ≡ f' c) → averaged_in g nn xs cs f p ≡ averaged_in g nn xs cs f' p
   unfolding averaged_in hats_by
-  averaged_agree {g} {p} {nn} {ns} {ws} {cs} l d h =
+  averaged_agree {g} {p} {nn} {xs} {cs} d h =
       let first : ℕ = cell_first nn p in
       let n : ℕ = cell_last nn p - first in
-      let ks : List Hat = hats_by ns ws cs p (last_axis p.component) in
-      let hs : List Hat = hats_by ns ws cs p (next_axis p.component) in
+      let ks : List Hat = hats_by xs cs p (last_axis p.component) in
+      let hs : List Hat = hats_by xs cs p (next_axis p.component) in
       let low : All (EdgeOf g) (each (hat_edges g p first n ks) hs) =
-      all_low l p first n d.c_in (omega (arith, d.cell_rises, d.cell_in)) ks hs (hats_below (d.hats_fit (last_axis p.component) (last_low p.component)))
+      all_low d.cell.limits p first n d.cell.c_in (omega (arith, d.cell.rises, d.cell.inside)) ks hs (hats_below (d.hats_fit (last_axis p.component) (last_low p.component)))
       (hats_below (d.hats_fit (next_axis p.component) (next_low p.component))) in
       ap mean_of (all_local f f' g p first n ks hs nothing (λ c m. h c (all_in low c m)))
 
 -- ---- the mean of one edge, as the code works it out
 
--- where the hats around the node of p on axis a stand: block b
-pub record Spot (p : Position) (a b : ℕ) : Type 0 where
-  pub is : b ≡ 64 * a + place_on p a
+-- an edge's cell
+module _ {g : Grid3d} {p : Position} {nn : List ℕ} (d : CellReady g p nn) {y : ℕ} (e : y ≡ place_on p p.component) where
+  pub node_low : 65 * p.component + y + 1 < 195
+  node_low = omega (arith, d.c_in, d.place_in)
 
-pub spot : {p : Position} {a x z y : ℕ} → x ≡ a → z ≡ a → y ≡ place_on p z → Spot p a (64 * x + y)
-spot {p} {a} {x} {z} {y} e o d = record { is = rw (e, d, o) }
+  abbrev pub cell : Cell
+  cell = record { grid = g; p = p; first = get_or nn (65 * p.component + y) 0; last = get_or nn (65 * p.component + y + 1) 0 }
 
-module _ {g : Grid3d} {p : Position} {nn ns : List ℕ} {ws : List Float} {cs : List ℕ} (d : AverageReady g p nn ns ws cs) where
-  pub spot_low : {a b : ℕ} → Spot p a b → a < 3 → b < 192
-  spot_low {a} s h = omega (arith, s.is, d.places a)
+  pub cell_is : cell ≡ cell_in g nn p
+  unfolding cell_in
+  cell_is = rw (e, cell_first_is nn p, cell_last_is nn p) refl
 
-  pub spot_fit : {a b : ℕ} → Spot p a b → a < 3 → HatsFit (n_of g a) (128 * b) (get_or cs b 0) ns ws
-  spot_fit {a} s h = rw s.is (d.hats_fit a h)
+  pub cell_fits : CellFits cell
+  cell_fits =
+      record {
+        limits = d.limits;
+        c_in = d.c_in;
+        rises = rw (e, ← cell_first_is nn p, ← cell_last_is nn p) d.rises;
+        inside = rw (e, ← cell_last_is nn p) d.inside;
+      }
 
-  pub node_low : {y : ℕ} → y ≡ place_on p p.component → 65 * p.component + y + 1 < 195
-  node_low e = omega (arith, d.c_in, d.places p.component)
+-- hats that stand in a list, cut out of it
+pub hats_cut : (xs : List Hat) (j n : ℕ) → j + n ≤ length xs → take n (drop j xs) ≡ hats_in xs j n
+unfolding hats_in
+hats_cut xs j zero h = rw (tabulate_zero (hat_at xs) j) refl
+hats_cut xs j (suc n) h =
+    let l : j < length xs = omega arith in
+    rw (drop-cons xs j no_hat l, tabulate_suc (hat_at xs) n j) (ap (λ (hs : List Hat). hat_at xs j ∷ hs) (hats_cut xs (suc j) n (omega arith)))
 
-  pub cell_fits : {y : ℕ} → y ≡ place_on p p.component
-      → (get_or nn (65 * p.component + y) 0 ≤ get_or nn (65 * p.component + y + 1) 0) × (get_or nn (65 * p.component + y + 1) 0 ≤ n_of g p.component)
-  cell_fits e = rw (e, ← cell_first_is nn p, ← cell_last_is nn p) (d.cell_rises, d.cell_in)
+pub axis_cut : (p : Position) (xs : List Hat) (cs : List ℕ) (a : ℕ) {y : ℕ} → y ≡ place_on p a → 128 * (64 * a + place_on p a) + get_or cs (64 * a + place_on p a) 0 ≤ length xs
+    → take (128 * (64 * a + y) + get_or cs (64 * a + y) 0 - 128 * (64 * a + y)) (drop (128 * (64 * a + y)) xs) ≡ hats_by xs cs p a
+unfolding hats_by
+axis_cut p xs cs a {y} e h =
+    let n : ℕ = get_or cs (64 * a + y) 0 in
+    let d : 128 * (64 * a + y) + n - 128 * (64 * a + y) ≡ n = omega arith in
+    rw (d, ← e) (hats_cut xs (128 * (64 * a + y)) n (rw e h))
 
-pub average_is : (g : Grid3d) (f : ℕ → C64) {p : Position} (nn ns : List ℕ) (ws : List Float) (cs : List ℕ) {b c y : ℕ} {s : Weighed} {v : C64}
-    → Spot p (next_axis p.component) b → Spot p (last_axis p.component) c → y ≡ place_on p p.component
-    → s
-    ≡ weigh_all g f p (get_or nn (65 * p.component + y) 0) (get_or nn (65 * p.component + y + 1) 0 - get_or nn (65 * p.component + y) 0) (hats_in ns ws (128 * c) (get_or cs c 0)) nothing
-    (hats_in ns ws (128 * b) (get_or cs b 0))
-    → v ≡ over_real s.total s.weight → v ≡ averaged_in g nn ns ws cs f p
-unfolding averaged_in hats_by mean_of
-average_is g f {p} nn ns ws cs x z e u v = rw (cell_first_is nn p, cell_last_is nn p, ← x.is, ← z.is, ← e, ← u) v
+-- the cell's part of what the mean asks for
+module _ (g : Grid3d) (p : Position) (nn : List ℕ) {c : Cell} (e : c ≡ cell_in g nn p) where
+  pub cell_room : {from n : ℕ} → (from ≤ 2 ^ 32) × (2 * (from + unknowns_of g) ≤ n) → (from ≤ 2 ^ 32) × (2 * (from + unknowns_of c.grid) ≤ n)
+  unfolding cell_in
+  cell_room h = rw e h
+
+  pub cell_next : {hs : List Hat} → NodesBelow (n_of g (next_axis p.component)) hs → NodesBelow (n_of c.grid (next_axis c.p.component)) hs
+  unfolding cell_in
+  cell_next h = rw e h
+
+  pub cell_last_axis : {hs : List Hat} → NodesBelow (n_of g (last_axis p.component)) hs → NodesBelow (n_of c.grid (last_axis c.p.component)) hs
+  unfolding cell_in
+  cell_last_axis h = rw e h
+
+-- the hats around the node of p on an axis, by the axis's number in the code
+module _ {g : Grid3d} {p : Position} {nn : List ℕ} {xs : List Hat} {cs : List ℕ} (d : AverageReady g p nn xs cs) {a b : ℕ} (e : b ≡ a) (h : a < 3) where
+  pub axis_ready : (b < 3) × (place_on p b < 64) × (length cs ≡ 192)
+  axis_ready = (rw e h, d.places b, d.counts_long)
+
+  pub axis_room : 128 * (64 * b + place_on p b) + get_or cs (64 * b + place_on p b) 0 ≤ length xs
+  axis_room = rw e (d.hats_fit a h).room
+
+  module _ {hs : List Hat} (o : hs ≡ hats_by xs cs p b) where
+    pub axis_hats_are : hs ≡ hats_by xs cs p a
+    axis_hats_are = rw e at o
+
+    pub axis_below : NodesBelow (n_of g a) hs
+    unfolding hats_by
+    axis_below = fit_below (d.hats_fit a h) axis_hats_are
+
+pub average_is : (g : Grid3d) (f : ℕ → C64) (p : Position) (nn : List ℕ) (xs : List Hat) (cs : List ℕ) {c : Cell} {hs ks : List Hat} {v : C64}
+    → c ≡ cell_in g nn p → hs ≡ hats_by xs cs p (next_axis p.component) → ks ≡ hats_by xs cs p (last_axis p.component)
+    → v ≡ mean_of (weigh_all c.grid f c.p c.first (c.last - c.first) ks nothing hs) → v ≡ averaged_in g nn xs cs f p
+unfolding averaged_in cell_in
+average_is g f p nn xs cs e x z v = v ∙ (λ i. mean_of (weigh_all (e i).grid f (e i).p (e i).first ((e i).last - (e i).first) (z i) nothing (x i)))
 
 -- ---- a loop over a level
 
 -- a turn: what the next one reads is before `to`
-pub averaging_turn : {gf gc : Grid3d} {nn ns : List ℕ} {ws : List Float} {cs : List ℕ} {n from to r : ℕ} {xs ys zs : List Float} {p : Position} {v : C64}
-    → Limits gf → Limits gc → AveragesReady gf gc nn ns ws cs
-    → ChainRoom (unknowns_of gf) (unknowns_of gc) from to xs → Chaining (averaged_no gf gc nn ns ws cs (read_from xs from)) n to xs ys r
-    → r < n → n ≡ unknowns_of gc → p ≡ at_of gc r → v ≡ averaged_in gf nn ns ws cs (read_from ys from) p → zs ≡ set_number ys (to + r) v
-    → Chaining (averaged_no gf gc nn ns ws cs (read_from xs from)) n to xs zs (r + 1)
+pub averaging_turn : {gf gc : Grid3d} {nn : List ℕ} {hs : List Hat} {cs : List ℕ} {n from to r : ℕ} {xs ys zs : List Float} {p : Position} {v : C64}
+    → Limits gc → AveragesReady gf gc nn hs cs
+    → ChainRoom (unknowns_of gf) (unknowns_of gc) from to xs → Chaining (averaged_no gf gc nn hs cs (read_from xs from)) n to xs ys r
+    → r < n → n ≡ unknowns_of gc → p ≡ at_of gc r → v ≡ averaged_in gf nn hs cs (read_from ys from) p → zs ≡ set_number ys (to + r) v
+    → Chaining (averaged_no gf gc nn hs cs (read_from xs from)) n to xs zs (r + 1)
 unfolding averaged_no
-averaging_turn {gf} {gc} {nn} {ns} {ws} {cs} {n} {from} {to} {r} {xs} {ys} {zs} {p} {v} lf lc d m c h e o q z =
+averaging_turn {gf} {gc} {nn} {hs} {cs} {n} {from} {to} {r} {xs} {ys} {zs} {p} {v} lc d m c h e o q z =
     let i : Inside gc (at_of gc r) = at_inside lc r (omega arith) in
     chaining_one c h
-    (q ∙ ap (averaged_in gf nn ns ws cs (read_from ys from)) o
-    ∙ averaged_agree (read_from ys from) (read_from xs from) lf (d.each_ready (at_of gc r) i) (λ c' b. rw (read_from_is ys from c', read_from_is xs from c') (c.left (from + c') (omega (arith, m.apart)))))
+    (q ∙ ap (averaged_in gf nn hs cs (read_from ys from)) o
+    ∙ averaged_agree (read_from ys from) (read_from xs from) (d.each_ready (at_of gc r) i) (λ c' b. rw (read_from_is ys from c', read_from_is xs from c') (c.left (from + c') (omega (arith, m.apart)))))
     z
 
-pub ready_at : {gf gc : Grid3d} {nn ns : List ℕ} {ws : List Float} {cs : List ℕ} {n r : ℕ} {p : Position} → Limits gc → AveragesReady gf gc nn ns ws cs → r < n
-    → n ≡ unknowns_of gc → p ≡ at_of gc r → AverageReady gf p nn ns ws cs
+pub ready_at : {gf gc : Grid3d} {nn : List ℕ} {xs : List Hat} {cs : List ℕ} {n r : ℕ} {p : Position} → Limits gc → AveragesReady gf gc nn xs cs → r < n
+    → n ≡ unknowns_of gc → p ≡ at_of gc r → AverageReady gf p nn xs cs
 ready_at {r = r} {p = p} l d h e o = d.each_ready p (rw o (at_inside l r (omega arith)))
 
 -- ---- from the levels
@@ -286,46 +315,52 @@ module _ (t : TwoLevels) (lc : Limits (coarse_grid t)) {nn : List ℕ} (o : nn �
   unfolding cell_count
   count_same = rw (first_same, last_same)
 
-module _ {t : TwoLevels} (lc : Limits (coarse_grid t)) {nn ns : List ℕ} {ws : List Float} {cs : List ℕ} (o : nn ≡ tabulate (node_no t) 195 0) (d : Hats t ns ws cs) where
-  hats_same : {p : Position} → Inside (coarse_grid t) p → (a : ℕ) → a < 3 → hats_by ns ws cs p a ≡ hats_on t p a
+pub cell_ready : {gf gc : Grid3d} {nn : List ℕ} {p : Position} → Limits gf → Limits gc → NestedIn gf gc nn → Inside gc p → CellReady gf p nn
+cell_ready {p = p} lf lc v h =
+    record {
+      limits = lf;
+      c_in = h.c_in;
+      place_in = omega (arith, place_inside h p.component, n_most lc p.component);
+      nodes_long = v.long;
+      rises = cell_rises v h;
+      inside = cell_most v h;
+    }
+
+module _ {t : TwoLevels} (lc : Limits (coarse_grid t)) {nn : List ℕ} {xs : List Hat} {cs : List ℕ} (o : nn ≡ tabulate (node_no t) 195 0) (d : Hats t xs cs) where
+  hats_same : {p : Position} → Inside (coarse_grid t) p → (a : ℕ) → a < 3 → hats_by xs cs p a ≡ hats_on t p a
   unfolding hats_by hats_on
   hats_same {p} h a b = d.hats_are a (place_on p a) b (omega (arith, place_inside h a, coarse_n t a))
 
   module _ {p : Position} (h : Inside (coarse_grid t) p) where
     -- the mean from the lists is the mean of the two levels
-    pub averaged_is : (f : ℕ → C64) → averaged_in (fine_grid t) nn ns ws cs f p ≡ averaged_at t f p
+    pub averaged_is : (f : ℕ → C64) → averaged_in (fine_grid t) nn xs cs f p ≡ averaged_at t f p
     unfolding averaged_in averaged_at
     averaged_is f =
         rw (count_same t lc o h, first_same t lc o h, hats_same h (last_axis p.component) (last_low p.component), hats_same h (next_axis p.component) (next_low p.component))
 
   -- those of the whole level
   level_same : (f : ℕ → C64)
-      → tabulate (averaged_no (fine_grid t) (coarse_grid t) nn ns ws cs f) (unknowns_of (coarse_grid t)) 0 ≡ tabulate (averaged_eps t f) (unknowns_of (coarse_grid t)) 0
+      → tabulate (averaged_no (fine_grid t) (coarse_grid t) nn xs cs f) (unknowns_of (coarse_grid t)) 0 ≡ tabulate (averaged_eps t f) (unknowns_of (coarse_grid t)) 0
   unfolding averaged_no averaged_eps
   level_same f =
-      tabulate_agree (averaged_no (fine_grid t) (coarse_grid t) nn ns ws cs f) (averaged_eps t f) (unknowns_of (coarse_grid t)) zero_number
+      tabulate_agree (averaged_no (fine_grid t) (coarse_grid t) nn xs cs f) (averaged_eps t f) (unknowns_of (coarse_grid t)) zero_number
       (λ r b. averaged_is (at_inside lc r b) f)
 
-  hats_in_lem : (a m : ℕ) → a < 3 → m < coarse_cells t a → m < 64 → HatsFit (n_of (fine_grid t) a) (128 * (64 * a + m)) (get_or cs (64 * a + m) 0) ns ws
+  hats_in_lem : (a m : ℕ) → a < 3 → m < coarse_cells t a → m < 64 → HatsFit (n_of (fine_grid t) a) (128 * (64 * a + m)) (get_or cs (64 * a + m) 0) xs
   hats_in_lem a m b h i =
       record {
-        nodes_room = omega (arith, d.nodes_long, d.counts_few a m b h);
-        weights_room = omega (arith, d.weights_long, d.counts_few a m b h);
-        low = omega (arith, d.counts_few a m b h);
+        room = omega (arith, d.hats_long, d.counts_few a m b h);
         nodes_in = λ q k. rw (fine_n t a) (d.nodes_in a m q b h k);
       }
 
-  pub levels_ready : NestedIn (fine_grid t) (coarse_grid t) nn → AveragesReady (fine_grid t) (coarse_grid t) nn ns ws cs
-  levels_ready v =
+  pub levels_ready : Limits (fine_grid t) → NestedIn (fine_grid t) (coarse_grid t) nn → AveragesReady (fine_grid t) (coarse_grid t) nn xs cs
+  levels_ready lf v =
       record {
         each_ready = λ p h.
             record {
-              c_in = h.c_in;
+              cell = cell_ready lf lc v h;
               places = λ a. omega (arith, place_inside h a, n_most lc a);
-              nodes_long = v.long;
               counts_long = d.counts_long;
-              cell_rises = cell_rises v h;
-              cell_in = cell_most v h;
               hats_fit = λ a b.
                   hats_in_lem a (place_on p a) b (omega (arith, place_inside h a, coarse_n t a)) (omega (arith, place_inside h a, n_most lc a));
             };
@@ -334,18 +369,18 @@ module _ {t : TwoLevels} (lc : Limits (coarse_grid t)) {nn ns : List ℕ} {ws : 
 -- ---- the whole: the code's grids and nodes are those of the levels, and so are the hats
 
 module _ {l : FullLattice} {fine coarse : Three} {gf gc : Grid3d} {nn : List ℕ} {from to : ℕ} {xs : List Float} (q : Chain l fine coarse gf gc nn from to xs)
-    {ns : List ℕ} {ws : List Float} {cs : List ℕ} (d : Hats (two_of l fine coarse) ns ws cs) where
-  pub averages_ready : AveragesReady gf gc nn ns ws cs
+    {hs : List Hat} {cs : List ℕ} (d : Hats (two_of l fine coarse) hs cs) where
+  pub averages_ready : AveragesReady gf gc nn hs cs
   averages_ready =
-      rw (q.fine_grid_lem, q.coarse_grid_lem) (levels_ready q.paired.coarse_limits q.node_list d (rw (q.fine_grid_lem, q.coarse_grid_lem) at (nested_in q)))
+      rw (q.fine_grid_lem, q.coarse_grid_lem) (levels_ready q.paired.coarse_limits q.node_list d q.paired.fine_limits (rw (q.fine_grid_lem, q.coarse_grid_lem) at (nested_in q)))
 
   -- what the code lays, and how many
-  laid_averages : tabulate (averaged_no gf gc nn ns ws cs (read_from xs from)) (unknowns_of gc) 0
+  laid_averages : tabulate (averaged_no gf gc nn hs cs (read_from xs from)) (unknowns_of gc) 0
       ≡ tabulate (averaged_eps (two_of l fine coarse) (read_from xs from)) (unknowns_of (coarse_grid (two_of l fine coarse))) 0
   laid_averages = rw (q.fine_grid_lem, q.coarse_grid_lem) (level_same q.paired.coarse_limits q.node_list d (read_from xs from))
 
   -- the list once all are laid
-  module _ {ys : List Float} (e : ys ≡ laid_numbers xs to (tabulate (averaged_no gf gc nn ns ws cs (read_from xs from)) (unknowns_of gc) 0)) where
+  module _ {ys : List Float} (e : ys ≡ laid_numbers xs to (tabulate (averaged_no gf gc nn hs cs (read_from xs from)) (unknowns_of gc) 0)) where
     pub averages_laid : ys
         ≡ laid_numbers xs to (tabulate (averaged_eps (two_of l fine coarse) (read_from xs from)) (unknowns_of (coarse_grid (two_of l fine coarse))) 0)
     averages_laid = e ∙ ap (laid_numbers xs to) laid_averages
@@ -353,13 +388,13 @@ module _ {l : FullLattice} {fine coarse : Three} {gf gc : Grid3d} {nn : List ℕ
     pub averages_room : {n : ℕ} → n ≡ unknowns_of gc → (to + n < 2 ^ 40) × (2 * (to + n) ≤ length ys)
     averages_room o =
         let k : length ys ≡ length xs =
-        ap length e ∙ laid_numbers_length xs to (tabulate (averaged_no gf gc nn ns ws cs (read_from xs from)) (unknowns_of gc) 0) in
+        ap length e ∙ laid_numbers_length xs to (tabulate (averaged_no gf gc nn hs cs (read_from xs from)) (unknowns_of gc) 0) in
         (omega (arith, (chain_room q).low, unknowns_most (coarse_in q)), omega (arith, (chain_room q).room))
 
     pub averages_finite : {n : ℕ} {b : Bool} → n ≡ unknowns_of gc → b ≡ all_finite (tabulate (number_at ys) n to)
         → b ≡ all_finite (tabulate (averaged_eps (two_of l fine coarse) (read_from xs from)) (unknowns_of (coarse_grid (two_of l fine coarse))) 0)
     averages_finite {n} {b} c u =
-        let vs : List C64 = tabulate (averaged_no gf gc nn ns ws cs (read_from xs from)) (unknowns_of gc) 0 in
-        let o : n ≡ length vs = c ∙ sym (length_tabulate (averaged_no gf gc nn ns ws cs (read_from xs from)) (unknowns_of gc) 0) in
+        let vs : List C64 = tabulate (averaged_no gf gc nn hs cs (read_from xs from)) (unknowns_of gc) 0 in
+        let o : n ≡ length vs = c ∙ sym (length_tabulate (averaged_no gf gc nn hs cs (read_from xs from)) (unknowns_of gc) 0) in
         let w : tabulate (number_at ys) n to ≡ vs = (λ i. tabulate (number_at (e i)) (o i) to) ∙ read_back xs to vs (omega (arith, (chain_room q).room)) in
         u ∙ ap all_finite (w ∙ laid_averages)

@@ -3,12 +3,10 @@
 use Prim.Native.Nat.{ℕ, ◌+◌, ◌-◌, ◌*◌, ◌<◌, ◌≤◌}
 use native.Mathlib.Omega.{arith}
 use mathlib.Core.Path.{◌≡◌, refl, sym, ap, ◌∙◌}
-use mathlib.Core.Bool.{Bool, true, false}
+use mathlib.Core.Bool.{Bool, true, false, ◌||◌}
 use mathlib.Core.List.{List}
-use lib.ListN.{length, get_or}
-use lib.Ieee.{Float}
+use lib.ListN.{length, get_or, take, drop}
 use Rattle.numbers.specs.declared.C64.{C64}
-use Rattle.numbers.specs.Complex.{over_real}
 use Rattle.numbers.specs.Lists.{tabulate, each, any_flag}
 use Rattle.numbers.proofs.ListLaws.{long_as}
 use Rattle.lattice.specs.declared.grid.Grid3d.{Grid3d}
@@ -19,22 +17,24 @@ use Rattle.lattice.specs.declared.line.Line.{Line}
 use Rattle.lattice.specs.Grid.{axis3, n_of, next_axis, last_axis, place_on, moved_to, index_of, at_of, unknowns_of, Limits, Inside}
 use Rattle.lattice.specs.Lattice.{FullLattice, edges_of, is_wall}
 use Rattle.lattice.specs.Line.{ends_of, nodes_of}
-use Rattle.lattice.proofs.GridLaws.{axis_both, place_inside, n_most, at_inside}
+use Rattle.lattice.proofs.GridLaws.{axis_both, place_inside, at_inside}
 use Rattle.weights.specs.CoarseEps.{edge_along}
-use Rattle.weights.specs.Tables.{node_no, NestedIn}
+use Rattle.weights.specs.Tables.{node_no, NestedIn, cell_first, cell_last}
 use Rattle.weights.specs.TwoLevels.{TwoLevels, fine_line, coarse_line, fine_cells, coarse_cells, fine_grid, coarse_grid, grid_with, two_of}
-use Rattle.weights.proofs.EpsLaws.{nodes_nested, cell_most, cell_rises}
-use Rattle.weights.proofs.Equations.{coarse_cells_is, fine_cells_is, edge_along_is, edges_along_is, cell_first_is, cell_last_is}
+use Rattle.weights.proofs.EpsLaws.{nodes_nested}
+use Rattle.weights.proofs.Equations.{coarse_cells_is, fine_cells_is, edge_along_is, edges_along_is}
 use Rattle.weights.proofs.TwoLevelLaws.{fine_n, coarse_n, node_at, fine_grid_lem, coarse_grid_lem}
+use Rattle.operators.specs.declared.averaged.Cell.{Cell}
 use Rattle.operators.specs.declared.averaged.Counts.{Counts}
 use Rattle.operators.specs.declared.averaged.Hat.{Hat}
-use Rattle.operators.specs.declared.averaged.Weighed.{Weighed}
-use Rattle.operators.specs.Averaged.{node_in, around, hats_around, hats_on, line_edges, hat_edges, hat_lines, cell_start, cell_count, weigh_all, nothing, mean_of, averaged_at, averaged_eps, averaged_reads, HatsLaid, NodesFrom, hat_at, hats_in, HatsFit, HatsAcross, LinePair, PairedLines}
-use Rattle.operators.proofs.AverageLaws.{Moved, first_same, count_same}
-use Rattle.numbers.proofs.FlagLaws.{any_flag_one}
+use Rattle.operators.specs.Averaged.{node_in, around, hats_around, hats_on, line_edges, hat_edges, hat_lines, cell_start, cell_count, weigh_all, nothing, mean_of, averaged_at, averaged_eps, averaged_reads, HatsLaid, NodesFrom, no_hat, hat_at, hats_in, NodesBelow, CellReady, cell_in, HatsFit, HatsAcross, LinePair, PairedLines}
+use Rattle.operators.proofs.AverageLaws.{Moved, first_same, count_same, fit_below, hats_cut, cell_ready}
+use Rattle.numbers.proofs.FlagLaws.{any_flag_one, any_flag_append}
+use Rattle.numbers.proofs.Laws.{or_true, or_false}
 use Rattle.numbers.proofs.ElementLaws.{Looking, looking_found, looking_end, single, each_single}
+use Rattle.std.proofs.lemmas.List.{at_drop_more, at_drop_all}
 use Rattle.weights.proofs.LevelLines.{two_base, two_fine, two_coarse, lines_on, node_is}
-use Rattle.operators.proofs.HatLaws.{Below, below_in, hats_as, hats_nodes_same, hats_weights_same, around_most, around_below, ends_cells, block_node, block_weight, block_read, block_same}
+use Rattle.operators.proofs.HatLaws.{Below, below_in, hats_as, hats_same, around_most, around_below, ends_cells, block_apart, block_read, block_same}
 
 -- ---- the hats around a node of an axis of two levels
 
@@ -70,8 +70,8 @@ module _ {l : FullLattice} {fine coarse : Three} (q : PairedLines l fine coarse)
         let v : wall ≡ is_wall (edges_of t.base a) = w ∙ ap is_wall o ∙ ap (λ (k : FullLattice). is_wall (edges_of k a)) (sym (two_base l fine coarse)) in
         λ i. around (v i) (fine_on i) (coarse_on i) m
 
-    pub around_on : {b : Edges} {wall : Bool} (m : ℕ) {ns ns' : List ℕ} {ws ws' : List Float} {from r : ℕ} → b ≡ edges_of l a → wall ≡ is_wall b
-        → HatsLaid ns ws from (around wall (ends_of f) (ends_of c) m) ns' ws' r → HatsLaid ns ws from (hats_around t a m) ns' ws' r
+    pub around_on : {b : Edges} {wall : Bool} (m : ℕ) {xs ys : List Hat} {from r : ℕ} → b ≡ edges_of l a → wall ≡ is_wall b
+        → HatsLaid xs from (around wall (ends_of f) (ends_of c) m) ys r → HatsLaid xs from (hats_around t a m) ys r
     around_on m o w p = hats_as p (around_is m o w)
 
   -- at most 127, each on the line
@@ -85,16 +85,10 @@ module _ {l : FullLattice} {fine coarse : Three} (q : PairedLines l fine coarse)
       rw (fine_cells_is t a, ← fine_on refl refl, ← around_is refl refl m refl refl)
       (around_below (pair_on refl refl) (is_wall (edges_of l a)) m (rw (cells_on_lem refl refl) at h))
 
--- hats that stand in the first or the second 128 places of lists of 256
-block_fit : {u b n : ℕ} {ns : List ℕ} {ws : List Float} {hs : List Hat} → hats_in ns ws (128 * b) n ≡ hs → Below u hs → n ≤ 127 → b ≤ 1 → length ns ≡ 256 → length ws ≡ 256
-    → HatsFit u (128 * b) n ns ws
-block_fit {u} {b} {n} {ns} {ws} e p few low x y =
-    record {
-      nodes_room = omega arith;
-      weights_room = omega arith;
-      low = omega arith;
-      nodes_in = λ q h. below_in u ns ws (128 * b) n (rw e p) (128 * b + q) q refl h;
-    }
+-- hats that stand in the first or the second 128 places of a list of 256
+block_fit : {u b n : ℕ} {xs hs : List Hat} → hats_in xs (128 * b) n ≡ hs → Below u hs → n ≤ 127 → b ≤ 1 → length xs ≡ 256 → HatsFit u (128 * b) n xs
+block_fit {u} {b} {n} {xs} e p few low x =
+    record { room = omega arith; nodes_in = λ q h. below_in u xs (128 * b) n (rw e p) (128 * b + q) q refl h }
 
 -- ---- those around an edge's node on the axes across it
 
@@ -102,18 +96,18 @@ module _ {l : FullLattice} {fine coarse : Three} (q : PairedLines l fine coarse)
   pub place_there : (a : ℕ) {m : ℕ} → m ≡ place_on p a → m < coarse_cells (two_of l fine coarse) a
   place_there a o = rw o (omega (arith, place_inside inside a, coarse_n (two_of l fine coarse) a))
 
-  pub across_are : {b c i j x y : ℕ} {ns ns₁ ns₂ : List ℕ} {ws ws₁ ws₂ : List Float} → b ≡ next_axis p.component → c ≡ last_axis p.component
-      → i ≡ place_on p b → j ≡ place_on p c → (length ns ≡ 256) × (length ws ≡ 256)
-      → HatsLaid ns ws 0 (hats_around (two_of l fine coarse) b i) ns₁ ws₁ x
-      → HatsLaid ns₁ ws₁ 128 (hats_around (two_of l fine coarse) c j) ns₂ ws₂ y
-      → HatsAcross (two_of l fine coarse) p ns₂ ws₂ (record { next = x; last = y - 128 })
+  pub across_are : {b c i j x y : ℕ} {xs xs₁ xs₂ : List Hat} → b ≡ next_axis p.component → c ≡ last_axis p.component
+      → i ≡ place_on p b → j ≡ place_on p c → length xs ≡ 256
+      → HatsLaid xs 0 (hats_around (two_of l fine coarse) b i) xs₁ x
+      → HatsLaid xs₁ 128 (hats_around (two_of l fine coarse) c j) xs₂ y
+      → HatsAcross (two_of l fine coarse) p xs₂ (record { next = x; last = y - 128 })
   unfolding hats_on
-  across_are {b} {c} {i} {j} {x} {y} {ns} {ns₁} {ns₂} {ws} {ws₁} {ws₂} eb ec ei ej long u v =
+  across_are {b} {c} {i} {j} {x} {y} {xs} {xs₁} {xs₂} eb ec ei ej long u v =
       record {
         next_are = rw (← eb, ← ei) first;
         last_are = rw (← ec, ← ej) second;
-        next_fit = rw (fine_n s (next_axis p.component), ← eb) (block_fit {b = 0} first (around_in q b i (place_there b ei)) (omega (arith, few, count)) (omega arith) nodes.1 weights.1);
-        last_fit = rw (fine_n s (last_axis p.component), ← ec) (block_fit {b = 1} second (around_in q c j (place_there c ej)) (omega (arith, few', count')) (omega arith) nodes.1 weights.1);
+        next_fit = rw (fine_n s (next_axis p.component), ← eb) (block_fit {b = 0} first (around_in q b i (place_there b ei)) (omega (arith, few, count)) (omega arith) longs.1);
+        last_fit = rw (fine_n s (last_axis p.component), ← ec) (block_fit {b = 1} second (around_in q c j (place_there c ej)) (omega (arith, few', count')) (omega arith) longs.1);
       }
     where
       s : TwoLevels
@@ -131,21 +125,17 @@ module _ {l : FullLattice} {fine coarse : Three} (q : PairedLines l fine coarse)
       count' : y - 128 ≡ length (hats_around s c j)
       count' = omega (arith, v.next)
 
-      nodes : (length ns₁ ≡ 256) × (length ns₂ ≡ 256)
-      nodes = (hats_nodes_same u ∙ long.0, hats_nodes_same v ∙ hats_nodes_same u ∙ long.0)
+      longs : (length xs₁ ≡ 256) × (length xs₂ ≡ 256)
+      longs = (hats_same u ∙ long, hats_same v ∙ hats_same u ∙ long)
 
-      weights : (length ws₁ ≡ 256) × (length ws₂ ≡ 256)
-      weights = (hats_weights_same u ∙ long.1, hats_weights_same v ∙ hats_weights_same u ∙ long.1)
-
-      first : hats_in ns₂ ws₂ 0 x ≡ hats_around s b i
+      first : hats_in xs₂ 0 x ≡ hats_around s b i
       first =
           rw count
-          (block_same ns₁ ns₂ ws₁ ws₂ 0 (length (hats_around s b i)) few
-          (λ k h. block_node {b = 1} v few' 0 k (omega arith) h) (λ k h. block_weight {b = 1} v few' 0 k (omega arith) h)
-          ∙ block_read 0 u few (omega (arith, long.0)) (omega (arith, long.1)))
+          (block_same xs₁ xs₂ 0 (length (hats_around s b i)) few (λ k h. block_apart {b = 1} v few' 0 k (omega arith) h)
+          ∙ block_read 0 u few (omega (arith, long)))
 
-      second : hats_in ns₂ ws₂ 128 (y - 128) ≡ hats_around s c j
-      second = rw count' (block_read 1 v few' (omega (arith, nodes.0)) (omega (arith, weights.0)))
+      second : hats_in xs₂ 128 (y - 128) ≡ hats_around s c j
+      second = rw count' (block_read 1 v few' (omega (arith, longs.0)))
 
 -- ---- one edge: the code's grid, node numbers and position are those of the levels
 
@@ -185,52 +175,64 @@ module _ {l : FullLattice} {fine coarse : Three} {gf : Grid3d} {nn : List ℕ} {
   nested : NestedIn (fine_grid (two_of l fine coarse)) (coarse_grid (two_of l fine coarse)) nn
   nested = rw e.node_list (nodes_nested e.lines.paired)
 
-  pub edge_long : length nn ≡ 195
-  edge_long = nested.long
-
   pub edge_unknowns : unknowns_of gf ≡ unknowns_of (fine_grid (two_of l fine coarse))
   edge_unknowns = ap unknowns_of e.grid
 
-  module _ {y : ℕ} (o : y ≡ place_on p p.component) where
-    -- where the numbers of its cell's nodes stand
-    pub edge_place : 65 * p.component + y + 1 < 195
-    edge_place =
-        omega (arith, edge_inside.c_in, place_inside edge_inside p.component, n_most e.lines.paired.coarse_limits p.component)
+  pub edge_ready : CellReady gf p nn
+  edge_ready = rw e.grid (cell_ready e.lines.paired.fine_limits e.lines.paired.coarse_limits nested edge_inside)
 
-    first_is : get_or nn (65 * p.component + y) 0 ≡ cell_start (two_of l fine coarse) p
-    first_is = rw o (sym (cell_first_is nn p) ∙ first_same (two_of l fine coarse) e.lines.paired.coarse_limits e.node_list edge_inside)
+  first_is : cell_first nn p ≡ cell_start (two_of l fine coarse) p
+  first_is = first_same (two_of l fine coarse) e.lines.paired.coarse_limits e.node_list edge_inside
 
-    count_is : get_or nn (65 * p.component + y + 1) 0 - get_or nn (65 * p.component + y) 0 ≡ cell_count (two_of l fine coarse) p
-    count_is = rw (o, ← cell_first_is nn p, ← cell_last_is nn p) (count_same (two_of l fine coarse) e.lines.paired.coarse_limits e.node_list edge_inside)
+  count_is : cell_last nn p - cell_first nn p ≡ cell_count (two_of l fine coarse) p
+  count_is = count_same (two_of l fine coarse) e.lines.paired.coarse_limits e.node_list edge_inside
 
-    pub edge_cell : (p.component < 3) × (get_or nn (65 * p.component + y) 0 ≤ get_or nn (65 * p.component + y + 1) 0) × (get_or nn (65 * p.component + y + 1) 0 ≤ n_of gf p.component)
-    edge_cell =
-        rw (o, e.grid, ← cell_first_is nn p, ← cell_last_is nn p) (edge_inside.c_in, cell_rises nested edge_inside, cell_most nested edge_inside)
+  module _ {c : Cell} (o : c ≡ cell_in gf nn p) where
+    pub cell_unknowns : unknowns_of c.grid ≡ unknowns_of (fine_grid (two_of l fine coarse))
+    unfolding cell_in
+    cell_unknowns = ap (λ (x : Cell). unknowns_of x.grid) o ∙ edge_unknowns
 
-    module _ {ns : List ℕ} {ws : List Float} {k : Counts} (h : HatsAcross (two_of l fine coarse) p ns ws k) where
-      pub edge_fit : HatsFit (n_of gf (next_axis p.component)) 0 k.next ns ws × HatsFit (n_of gf (last_axis p.component)) 128 k.last ns ws
-      edge_fit = rw e.grid (h.next_fit, h.last_fit)
+    module _ {xs : List Hat} {k : Counts} (h : HatsAcross (two_of l fine coarse) p xs k) where
+      -- the hats that the code cuts out of the list
+      abbrev pub nexts : List Hat
+      nexts = take k.next xs
 
-      pub edge_average : (f : ℕ → C64) {s : Weighed} {v : C64}
-          → s
-          ≡ weigh_all gf f p (get_or nn (65 * p.component + y) 0) (get_or nn (65 * p.component + y + 1) 0 - get_or nn (65 * p.component + y) 0) (hats_in ns ws 128 k.last) nothing
-          (hats_in ns ws 0 k.next)
-          → v ≡ over_real s.total s.weight → v ≡ averaged_eps (two_of l fine coarse) f r
-      unfolding averaged_eps averaged_at mean_of
-      edge_average f u v =
-          rw (← e.at, ← h.next_are, ← h.last_are, ← count_is, ← first_is, ← e.grid, ← u) v
+      abbrev pub lasts : List Hat
+      lasts = take (128 + k.last - 128) (drop 128 xs)
+
+      next_cut : nexts ≡ hats_in xs 0 k.next
+      next_cut = hats_cut xs 0 k.next h.next_fit.room
+
+      last_cut : lasts ≡ hats_in xs 128 k.last
+      last_cut = let d : 128 + k.last - 128 ≡ k.last = omega arith in rw d (hats_cut xs 128 k.last h.last_fit.room)
+
+      pub next_below : NodesBelow (n_of c.grid (next_axis c.p.component)) nexts
+      unfolding cell_in
+      next_below = rw (o, e.grid) (fit_below h.next_fit next_cut)
+
+      pub last_below : NodesBelow (n_of c.grid (last_axis c.p.component)) lasts
+      unfolding cell_in
+      last_below = rw (o, e.grid) (fit_below h.last_fit last_cut)
+
+      pub edge_average : (f : ℕ → C64) {v : C64}
+          → v ≡ mean_of (weigh_all c.grid f c.p c.first (c.last - c.first) lasts nothing nexts)
+          → v ≡ averaged_eps (two_of l fine coarse) f r
+      unfolding averaged_eps averaged_at cell_in
+      edge_average f v =
+          v
+          ∙ (λ i. mean_of (weigh_all (o i).grid f (o i).p (o i).first ((o i).last - (o i).first) (last_cut i) nothing (next_cut i)))
+          ∙ (λ i. mean_of (weigh_all (e.grid i) f p (first_is i) (count_is i) (h.last_are i) nothing (h.next_are i)))
+          ∙ ap (λ (x : Position). averaged_at (two_of l fine coarse) f x) e.at
 
       pub edge_flagged : (fs : List Bool) {b : Bool}
-          → b
-          ≡ any_flag fs
-          (each (hat_edges gf p (get_or nn (65 * p.component + y) 0) (get_or nn (65 * p.component + y + 1) 0 - get_or nn (65 * p.component + y) 0) (hats_in ns ws 128 k.last))
-          (hats_in ns ws 0 k.next))
+          → b ≡ any_flag fs (each (hat_edges c.grid c.p c.first (c.last - c.first) lasts) nexts)
           → b ≡ any_flag fs (averaged_reads (two_of l fine coarse) r)
-      unfolding averaged_reads hat_lines
+      unfolding averaged_reads hat_lines cell_in
       edge_flagged fs v =
           v
+          ∙ (λ i. any_flag fs (each (hat_edges (o i).grid (o i).p (o i).first ((o i).last - (o i).first) (last_cut i)) (next_cut i)))
           ∙ (λ i. any_flag fs (each (hat_edges (e.grid i) p (first_is i) (count_is i) (h.last_are i)) (h.next_are i)))
-          ∙ ap (λ (o : Position). any_flag fs (each (hat_lines (two_of l fine coarse) o) (hats_on (two_of l fine coarse) o (next_axis o.component)))) e.at
+          ∙ ap (λ (x : Position). any_flag fs (each (hat_lines (two_of l fine coarse) x) (hats_on (two_of l fine coarse) x (next_axis x.component)))) e.at
 
 -- ---- whether an edge of a line is flagged
 
@@ -251,19 +253,21 @@ pub flag_at_lem : (fs : List Bool) (g : Grid3d) (q : Position) (m : ℕ) {c : �
     → get_or fs c false ≡ any_flag fs (single (edge_along g q m))
 flag_at_lem fs g q m e d = rw (any_flag_one fs (edge_along g q m), edge_along_is g q m, ← e, ← d)
 
--- ---- whether an edge of the lines through hats is flagged
+-- ---- whether an edge of the lines through hats is flagged: what the rest, from hat i on, comes to
 
-module _ {fs : List Bool} {F : Hat → List ℕ} (ns : List ℕ) (ws : List Float) (n : ℕ) {j e m : ℕ} (o : e ≡ j + n) (s : Looking fs F (hat_at ns ws) j e m) where
-  hats_are : each F (tabulate (hat_at ns ws) (e - j) j) ≡ each F (hats_in ns ws j n)
-  unfolding hats_in
-  hats_are = let d : e - j ≡ n = omega arith in rw d
+module _ (fs : List Bool) (F : Hat → List ℕ) (hs : List Hat) (i : ℕ) {t : Bool} (p : any_flag fs (each F (drop i hs)) ≡ t) where
+  seek_next : i < length hs → (any_flag fs (F (hat_at hs i)) || any_flag fs (each F (drop (i + 1) hs))) ≡ t
+  unfolding each
+  seek_next h =
+      sym (any_flag_append fs (F (hat_at hs i)) (each F (drop (i + 1) hs)))
+      ∙ sym (at_drop_more (λ (ks : List Hat). any_flag fs (each F ks)) hs i no_hat h) ∙ p
 
-  pub hats_found : {b : Bool} → m < e → b ≡ any_flag fs (F (hat_at ns ws m)) → b ≡ true → b ≡ any_flag fs (each F (hats_in ns ws j n))
-  hats_found a u t = looking_found s a u t ∙ ap (any_flag fs) hats_are
+  pub seek_turn : {b : Bool} → i < length hs → b ≡ any_flag fs (F (hat_at hs i)) → b ≡ false → any_flag fs (each F (drop (i + 1) hs)) ≡ t
+  seek_turn h o n = sym (or_false (any_flag fs (F (hat_at hs i))) _ (sym o ∙ n)) ∙ seek_next h
 
-  pub hats_none : e ≤ m → false ≡ any_flag fs (each F (hats_in ns ws j n))
-  hats_none a = looking_end s a ∙ ap (any_flag fs) hats_are
+  pub seek_found : {b : Bool} → i < length hs → b ≡ any_flag fs (F (hat_at hs i)) → b ≡ true → b ≡ t
+  seek_found h o n = o ∙ sym (or_true (any_flag fs (F (hat_at hs i))) _ (sym o ∙ n)) ∙ seek_next h
 
--- the node of a hat that stands there
-pub hat_node : {b j n q : ℕ} {ns : List ℕ} {ws : List Float} → HatsFit b j n ns ws → j ≤ q → q < j + n → get_or ns q 0 < b
-hat_node {b} {j} {n} {q} d h k = let e : j + (q - j) ≡ q = omega arith in rw e at (d.nodes_in (q - j) (omega arith))
+  pub seek_end : length hs ≤ i → false ≡ t
+  unfolding each any_flag
+  seek_end h = sym (at_drop_all (λ (ks : List Hat). any_flag fs (each F ks)) hs i h) ∙ p

@@ -1,6 +1,6 @@
 -- The words of level 0, place by place.
 -- Assumes nothing.
-use Prim.Native.Nat.{ℕ, zero, suc, ◌-◌, ◌*◌, ◌/◌, ◌%◌, ◌<◌, ◌≤◌}
+use Prim.Native.Nat.{ℕ, zero, suc, ◌*◌, ◌/◌, ◌%◌, ◌<◌, ◌≤◌}
 use mathlib.Core.Path.{◌≡◌, refl, ap, ◌∙◌}
 use mathlib.Core.Bool.{Bool, true, false, not, ◌&&◌, ◌||◌, and-true, and-false, or-false}
 use mathlib.Core.List.{List}
@@ -12,43 +12,41 @@ use lib.ListN.{length, get_or, length-replicate}
 use Rattle.numbers.specs.Lists.{tabulate}
 use Rattle.numbers.proofs.TabulateLaws.{length_tabulate, tabulate_at_0}
 use Rattle.operators.specs.Relation.{Rel}
-use Rattle.operators.specs.Pattern.{Role, across, rel}
+use Rattle.operators.specs.Pattern.{Role, across, role_of, rel}
 use Rattle.operators.specs.Bits.{bit_at, single, gathered}
 use Rattle.operators.specs.Compose.{table}
-use Rattle.operators.specs.Numbered.{role_no, name_no, relations_laid, no_relations, Right}
+use Rattle.operators.specs.Numbered.{name_no, relations_laid, no_relations, Right}
 use Rattle.operators.specs.Base.{live_at, follows, base_of, base_word, base_words}
 use Rattle.operators.proofs.WordLaws.{bit_none, bit_mix, bit_unit}
 use Rattle.operators.proofs.TableLaws.{relation_at}
 use Rattle.operators.proofs.Sound.{ladder}
 
-pub live_along : (b : Bool) (role i : ℕ) → role ≡ 0 → true ≡ live_at b (role_no role) i
+pub live_along : (b along : Bool) (i : ℕ) → along ≡ true → true ≡ live_at b (role_of along) i
 unfolding live_at
-live_along b role i e = rw e
+live_along b along i e = rw e
 
-pub live_across : (b : Bool) (role i : ℕ) → role < 2 → (role ≡ 0 → ⊥) → (b || not (eqb i 0)) ≡ live_at b (role_no role) i
+pub live_across : (b along : Bool) (i : ℕ) → along ≡ false → (b || not (eqb i 0)) ≡ live_at b (role_of along) i
 unfolding live_at
-live_across b role i h n =
-    let e : role ≡ 1 = omega arith in
-    rw e
+live_across b along i e = rw e
 
 -- the relations by their numbers
 module _ (n : ℕ) (bloch : Bool) (w i j : ℕ) where
-  pub same_related : w < 2 → (live_at bloch (role_no w) i && eqb i j) ≡ base_of n bloch (name_no w) i j
+  pub same_related : w < 2 → (live_at bloch (role_of (eqb w 0)) i && eqb i j) ≡ base_of n bloch (name_no w) i j
   unfolding base_of
   same_related h = go w h
     where
-      go : (w : ℕ) → w < 2 → (live_at bloch (role_no w) i && eqb i j) ≡ base_of n bloch (name_no w) i j
+      go : (w : ℕ) → w < 2 → (live_at bloch (role_of (eqb w 0)) i && eqb i j) ≡ base_of n bloch (name_no w) i j
       go zero h = refl
       go (suc zero) h = refl
       go (suc (suc w)) h = absurd (omega arith)
 
   pub near_related : 2 ≤ w → w < 4
-      → ((live_at bloch (role_no (w - 2)) i && live_at bloch (role_no (w - 2)) j) && (eqb i j || (follows n bloch i j || follows n bloch j i))) ≡ base_of n bloch (name_no w) i j
+      → ((live_at bloch (role_of (eqb w 2)) i && live_at bloch (role_of (eqb w 2)) j) && (eqb i j || (follows n bloch i j || follows n bloch j i))) ≡ base_of n bloch (name_no w) i j
   unfolding base_of
   near_related l h = go (ℕ_discrete w 2)
     where
       go : Dec (w ≡ 2)
-          → ((live_at bloch (role_no (w - 2)) i && live_at bloch (role_no (w - 2)) j) && (eqb i j || (follows n bloch i j || follows n bloch j i))) ≡ base_of n bloch (name_no w) i j
+          → ((live_at bloch (role_of (eqb w 2)) i && live_at bloch (role_of (eqb w 2)) j) && (eqb i j || (follows n bloch i j || follows n bloch j i))) ≡ base_of n bloch (name_no w) i j
       go (yes e) = rw e
       go (no o) = let e : w ≡ 3 = omega arith in rw e
 

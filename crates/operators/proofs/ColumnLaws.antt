@@ -79,21 +79,18 @@ line_pass w base n i e = go (dec_lt i n)
 line_next : {i r : ℕ} (w base n : ℕ) → NextPlace w i r → line w base (n - i) i ≡ line w base (n - r) r
 line_next w base n o = next_same w (λ k. line w base (n - k) k) (line_pass w base n) o
 
-pub line_turn : {xs₀ : List ℕ} {at₀ : ℕ} {whole xs ys : List ℕ} {at r j : ℕ} (w base n i : ℕ)
-    → Laid xs₀ at₀ whole xs at (line w base (n - i) i) → i < n → bit_at w i ≡ true → Listed xs at (keep true (base + i) []) ys r → NextPlace w (i + 1) j
-    → Laid xs₀ at₀ whole ys r (line w base (n - j) j)
-line_turn {xs₀} {at₀} {whole} {xs} {ys} {at} {r} {j} w base n i l h e o next =
-    laid_part ((base + i) ∷ []) (line w base (n - j) j) (subst (Laid xs₀ at₀ whole xs at) t l) o
+pub line_turn : {xs₀ : List ℕ} {at₀ : ℕ} {whole xs ys : List ℕ} {at r q : ℕ} (w base n i : ℕ)
+    → Laid xs₀ at₀ whole xs at (line w base (n - q) q) → NextPlace w q i → i < n → n ≤ 64 → Listed xs at (keep true (base + i) []) ys r
+    → Laid xs₀ at₀ whole ys r (line w base (n - (i + 1)) (i + 1))
+line_turn {xs₀} {at₀} {whole} {xs} {ys} {at} {r} {q} w base n i l next h few o =
+    laid_part ((base + i) ∷ []) (line w base (n - (i + 1)) (i + 1)) (subst (Laid xs₀ at₀ whole xs at) t l) o
   where
-    t : line w base (n - i) i ≡ (base + i) ∷ line w base (n - j) j
-    t = line_step w base n i h ∙ rw (e, line_next w base n next)
+    t : line w base (n - q) q ≡ (base + i) ∷ line w base (n - (i + 1)) (i + 1)
+    t = line_next w base n next ∙ line_step w base n i h ∙ rw (next.here (omega arith))
 
-pub line_start : {xs : List ℕ} {at i : ℕ} (w base n : ℕ) → NextPlace w 0 i → Laid xs at (line w base n 0) xs at (line w base (n - i) i)
-line_start {xs} {at} w base n o = subst (Laid xs at (line w base n 0) xs at) (line_next w base n o) (rw (sub-zero n) laid_start)
-
-pub line_end : {xs₀ : List ℕ} {at₀ : ℕ} {whole xs : List ℕ} {at : ℕ} (w base n i : ℕ)
-    → Laid xs₀ at₀ whole xs at (line w base (n - i) i) → n ≤ i → Listed xs₀ at₀ whole xs at
-line_end w base n i l h = laid_end (rw (line_done w base n i h) at l)
+pub line_end : {xs₀ : List ℕ} {at₀ : ℕ} {whole xs : List ℕ} {at q : ℕ} (w base n i : ℕ)
+    → Laid xs₀ at₀ whole xs at (line w base (n - q) q) → NextPlace w q i → n ≤ i → Listed xs₀ at₀ whole xs at
+line_end {xs₀} {at₀} {whole} {xs} {at} w base n i l next h = laid_end (subst (Laid xs₀ at₀ whole xs at) (line_next w base n next ∙ line_done w base n i h) l)
 
 line_none : (base n i : ℕ) → line 0 base n i ≡ []
 unfolding line
@@ -153,27 +150,28 @@ module _ (s t a b nx : ℕ) where
   plane_next : {i r : ℕ} (base n : ℕ) → NextPlace both i r → plane s t a b nx (base + nx * i) (n - i) i ≡ plane s t a b nx (base + nx * r) (n - r) r
   plane_next base n o = next_same both (λ k. plane s t a b nx (base + nx * k) (n - k) k) (plane_pass base n) o
 
-  pub plane_turn : {xs₀ : List ℕ} {at₀ : ℕ} {whole xs ys : List ℕ} {at r i : ℕ} {u v : Bool} {w both' : ℕ} (base n j : ℕ)
-      → Laid xs₀ at₀ whole xs at (plane s t a b nx (base + nx * j) (n - j) j) → j < n → u ≡ bit_at a j → v ≡ bit_at b j → w ≡ mix_of u t v s
-      → Listed xs at (line w (base + nx * j) nx 0) ys r → both' ≡ both → NextPlace both' (j + 1) i
-      → Laid xs₀ at₀ whole ys r (plane s t a b nx (base + nx * i) (n - i) i)
-  plane_turn {xs₀} {at₀} {whole} {xs} {ys} {at} {r} {i} {w = w} base n j l h p q e o same next =
-      laid_part (line w (base + nx * j) nx 0) (plane s t a b nx (base + nx * i) (n - i) i) (subst (Laid xs₀ at₀ whole xs at) turn l) o
+  pub plane_turn : {xs₀ : List ℕ} {at₀ : ℕ} {whole xs ys : List ℕ} {at r q : ℕ} {u v : Bool} {w both' : ℕ} (base n j : ℕ)
+      → Laid xs₀ at₀ whole xs at (plane s t a b nx (base + nx * q) (n - q) q) → both' ≡ both → NextPlace both' q j → j < n
+      → u ≡ bit_at a j → v ≡ bit_at b j → w ≡ mix_of u t v s → Listed xs at (line w (base + nx * j) nx 0) ys r
+      → Laid xs₀ at₀ whole ys r (plane s t a b nx (base + nx * (j + 1)) (n - (j + 1)) (j + 1))
+  plane_turn {xs₀} {at₀} {whole} {xs} {ys} {at} {r} {q} {w = w} base n j l same next h eu ev ew o =
+      laid_part (line w (base + nx * j) nx 0) (plane s t a b nx (base + nx * (j + 1)) (n - (j + 1)) (j + 1)) (subst (Laid xs₀ at₀ whole xs at) turn l) o
     where
-      turn : plane s t a b nx (base + nx * j) (n - j) j ≡ line w (base + nx * j) nx 0 ++ plane s t a b nx (base + nx * i) (n - i) i
-      turn = plane_step (base + nx * j) n j h ∙ rw (← p, ← q, ← e, next_start base nx j, plane_next base n (subst (λ (x : ℕ). NextPlace x (j + 1) i) same next))
+      turn : plane s t a b nx (base + nx * q) (n - q) q ≡ line w (base + nx * j) nx 0 ++ plane s t a b nx (base + nx * (j + 1)) (n - (j + 1)) (j + 1)
+      turn =
+          plane_next base n (subst (λ (x : ℕ). NextPlace x q j) same next)
+          ∙ plane_step (base + nx * j) n j h ∙ rw (← eu, ← ev, ← ew, next_start base nx j)
 
-  pub plane_start : {xs : List ℕ} {at j both' : ℕ} (base n : ℕ) → both' ≡ both → NextPlace both' 0 j
-      → Laid xs at (plane s t a b nx base n 0) xs at (plane s t a b nx (base + nx * j) (n - j) j)
-  plane_start {xs} {at} {j} base n same next =
-      subst (Laid xs at (plane s t a b nx base n 0) xs at) (first ∙ plane_next base n (subst (λ (x : ℕ). NextPlace x 0 j) same next)) laid_start
+  pub plane_start : {xs : List ℕ} {at : ℕ} (base n : ℕ) → Laid xs at (plane s t a b nx base n 0) xs at (plane s t a b nx (base + nx * 0) (n - 0) 0)
+  plane_start {xs} {at} base n = subst (Laid xs at (plane s t a b nx base n 0) xs at) first laid_start
     where
       first : plane s t a b nx base n 0 ≡ plane s t a b nx (base + nx * 0) (n - 0) 0
       first = rw (mul-zero nx, add-zero base, sub-zero n)
 
-  pub plane_end : {xs₀ : List ℕ} {at₀ : ℕ} {whole xs : List ℕ} {at : ℕ} (start n j : ℕ)
-      → Laid xs₀ at₀ whole xs at (plane s t a b nx start (n - j) j) → n ≤ j → Listed xs₀ at₀ whole xs at
-  plane_end start n j l h = laid_end (rw (plane_done start n j h) at l)
+  pub plane_end : {xs₀ : List ℕ} {at₀ : ℕ} {whole xs : List ℕ} {at q both' : ℕ} (base n j : ℕ)
+      → Laid xs₀ at₀ whole xs at (plane s t a b nx (base + nx * q) (n - q) q) → both' ≡ both → NextPlace both' q j → n ≤ j → Listed xs₀ at₀ whole xs at
+  plane_end {xs₀} {at₀} {whole} {xs} {at} {q} base n j l same next h =
+      laid_end (subst (Laid xs₀ at₀ whole xs at) (plane_next base n (subst (λ (x : ℕ). NextPlace x q j) same next) ∙ plane_done (base + nx * j) n j h) l)
 
 plane_none : (s t nx start n j : ℕ) → plane s t 0 0 nx start n j ≡ []
 unfolding plane
@@ -235,29 +233,29 @@ module _ (p : Picks) (nx ny : ℕ) where
   block_next : {i r : ℕ} (base n : ℕ) → NextPlace levels i r → planes base n i ≡ planes base n r
   block_next base n o = next_same levels (planes base n) (block_pass base n) o
 
-  pub block_turn : {xs₀ : List ℕ} {at₀ : ℕ} {whole xs ys : List ℕ} {at r i : ℕ} {u v : Bool} {a b both : ℕ} (base n k : ℕ)
-      → Laid xs₀ at₀ whole xs at (planes base n k) → k < n
+  pub block_turn : {xs₀ : List ℕ} {at₀ : ℕ} {whole xs ys : List ℕ} {at r q : ℕ} {u v : Bool} {a b both : ℕ} (base n k : ℕ)
+      → Laid xs₀ at₀ whole xs at (planes base n q) → both ≡ levels → NextPlace both q k → k < n
       → u ≡ bit_at p.sz k → a ≡ mix_of u p.sy false 0 → v ≡ bit_at p.tz k → b ≡ mix_of u p.ty v p.sy
-      → Listed xs at (plane p.sx p.tx a b nx (base + nx * ny * k) ny 0) ys r → both ≡ levels → NextPlace both (k + 1) i
-      → Laid xs₀ at₀ whole ys r (planes base n i)
-  block_turn {xs₀} {at₀} {whole} {xs} {ys} {at} {r} {i} {a = a} {b = b} base n k l h eu ea ev eb o same next =
-      laid_part (plane p.sx p.tx a b nx (base + nx * ny * k) ny 0) (planes base n i) (subst (Laid xs₀ at₀ whole xs at) turn l) o
+      → Listed xs at (plane p.sx p.tx a b nx (base + nx * ny * k) ny 0) ys r
+      → Laid xs₀ at₀ whole ys r (planes base n (k + 1))
+  block_turn {xs₀} {at₀} {whole} {xs} {ys} {at} {r} {q} {a = a} {b = b} base n k l same next h eu ea ev eb o =
+      laid_part (plane p.sx p.tx a b nx (base + nx * ny * k) ny 0) (planes base n (k + 1)) (subst (Laid xs₀ at₀ whole xs at) turn l) o
     where
-      turn : planes base n k ≡ plane p.sx p.tx a b nx (base + nx * ny * k) ny 0 ++ planes base n i
+      turn : planes base n q ≡ plane p.sx p.tx a b nx (base + nx * ny * k) ny 0 ++ planes base n (k + 1)
       turn =
-          block_step (base + nx * ny * k) n k h
-          ∙ rw (← eu, ← ev, ← ea, ← eb, next_start base (nx * ny) k, block_next base n (subst (λ (x : ℕ). NextPlace x (k + 1) i) same next))
+          block_next base n (subst (λ (x : ℕ). NextPlace x q k) same next)
+          ∙ block_step (base + nx * ny * k) n k h ∙ rw (← eu, ← ev, ← ea, ← eb, next_start base (nx * ny) k)
 
-  pub block_start : {xs : List ℕ} {at k both : ℕ} (base n : ℕ) → both ≡ levels → NextPlace both 0 k → Laid xs at (block p nx ny base n 0) xs at (planes base n k)
-  block_start {xs} {at} {k} base n same next =
-      subst (Laid xs at (block p nx ny base n 0) xs at) (first ∙ block_next base n (subst (λ (x : ℕ). NextPlace x 0 k) same next)) laid_start
+  pub block_start : {xs : List ℕ} {at : ℕ} (base n : ℕ) → Laid xs at (block p nx ny base n 0) xs at (planes base n 0)
+  block_start {xs} {at} base n = subst (Laid xs at (block p nx ny base n 0) xs at) first laid_start
     where
       first : block p nx ny base n 0 ≡ planes base n 0
       first = rw (mul-zero (nx * ny), add-zero base, sub-zero n)
 
-  pub block_end : {xs₀ : List ℕ} {at₀ : ℕ} {whole xs : List ℕ} {at : ℕ} (start n k : ℕ)
-      → Laid xs₀ at₀ whole xs at (block p nx ny start (n - k) k) → n ≤ k → Listed xs₀ at₀ whole xs at
-  block_end start n k l h = laid_end (rw (block_done start n k h) at l)
+  pub block_end : {xs₀ : List ℕ} {at₀ : ℕ} {whole xs : List ℕ} {at q both : ℕ} (base n k : ℕ)
+      → Laid xs₀ at₀ whole xs at (planes base n q) → both ≡ levels → NextPlace both q k → n ≤ k → Listed xs₀ at₀ whole xs at
+  block_end {xs₀} {at₀} {whole} {xs} {at} {q} base n k l same next h =
+      laid_end (subst (Laid xs₀ at₀ whole xs at) (block_next base n (subst (λ (x : ℕ). NextPlace x q k) same next) ∙ block_done (base + nx * ny * k) n k h) l)
 
 pub area : (nx ny : ℕ) → nx ≤ 64 → ny ≤ 64 → nx * ny ≤ 4096
 area nx ny h g = omega (arith, mul-le-mul h g)

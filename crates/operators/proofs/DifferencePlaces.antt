@@ -14,7 +14,7 @@ use Rattle.numbers.specs.declared.C64.{C64}
 use Rattle.numbers.specs.Complex.{one_f, negation}
 use Rattle.lattice.specs.declared.grid.Position.{Position}
 use Rattle.lattice.specs.declared.neighbours.Arrival.{Arrival}
-use Rattle.lattice.specs.declared.neighbours.Arrival.TheVariants.{To, Beyond}
+use Rattle.std.specs.Prelude.{None, Some, Option}
 use Rattle.lattice.specs.Grid.{n_of, next_axis, last_axis, place_on, moved_to, with_component, index_of, at_of, Inside}
 use Rattle.lattice.specs.Lattice.{FullLattice, edges_of}
 use Rattle.numbers.specs.Terms.{Term, columns_of}
@@ -64,17 +64,17 @@ module _ (l : FullLattice) (p : Position) (inside : Inside l.grid p) (t f : ℕ)
   to_found : (c : ℕ) (w : C64) → In c (columns_of (Curls.term_to (neighbour_of l (with_component p f) t up) w)) → Found l (Moves l up p t f) c
   to_found c w i = go (shifted (edges_of l t) (n_of l.grid t) (place_on p t) up) refl (rw (neighbour_of_is, with_place) at i)
     where
-      go : (s : Arrival) → shifted (edges_of l t) (n_of l.grid t) (place_on p t) up ≡ s
+      go : (s : Option Arrival) → shifted (edges_of l t) (n_of l.grid t) (place_on p t) up ≡ s
           → In c (columns_of (Curls.term_to (arrived l (with_component p f) t s) w)) → Found l (Moves l up p t f) c
-      go Beyond e i = absurd (rw columns_of_nil at i)
-      go (To k v) e i =
+      go None e i = absurd (rw columns_of_nil at i)
+      go (Some s) e i =
           record {
-            at = moved_to (with_component p f) t k;
-            inside = moved_inside (with_inside inside f hf) t k (shift_below (edges_of l t) (n_of l.grid t) (place_on p t) up k v (place_inside inside t) e);
+            at = moved_to (with_component p f) t s.at;
+            inside = moved_inside (with_inside inside f hf) t s.at (shift_below (edges_of l t) (n_of l.grid t) (place_on p t) up s.at s.phase (place_inside inside t) e);
             is = ⊎_elim (λ j. sym j) (λ j. absurd j) (rw to_column at i);
             held = (
-              moved_component (with_component p f) t k ∙ with_component_lem p f,
-              moved_times l up p f t ht k (shift_step l t (place_on p t) k (place_inside inside t) up v e),
+              moved_component (with_component p f) t s.at ∙ with_component_lem p f,
+              moved_times l up p f t ht s.at (shift_step l t (place_on p t) s.at (place_inside inside t) up s.phase e),
             );
           }
 

@@ -1,4 +1,4 @@
--- The fine nodes around a coarse one: the walk over lower neighbours, hats laid over two lists and read back, how many there are and that
+-- The fine nodes around a coarse one: the walk over lower neighbours, hats laid over a list and read back, how many there are and that
 -- their nodes are on the line; and that the lines of neighbouring levels are what the code of them asks for.
 -- Assumes nothing.
 use Prim.Native.Nat.{ℕ, zero, suc, ◌+◌, ◌-◌, ◌*◌, ◌%◌, ◌<◌, ◌≤◌, min}
@@ -15,7 +15,7 @@ use borrow.Author.Tests.{ltb-true, lt-ltb, le-ltb, eq-eqb, ne_eqb}
 use lib.Dec.{eqb, ltb}
 use lib.ListN.{length, get_or, set, replicate, length-set, length-append, get_or-append}
 use lib.Seq.{get_or-set_same, get_or-set_other}
-use lib.Ieee.{Float, nan}
+use lib.Ieee.{Float}
 use Rattle.numbers.specs.declared.C64.{C64}
 use Rattle.numbers.specs.Complex.{one_f}
 use Rattle.lattice.specs.declared.levels.Three.{Three}
@@ -23,14 +23,14 @@ use Rattle.lattice.specs.declared.line.Line.{Line}
 use Rattle.lattice.specs.declared.lattice.Edges.{Edges}
 use Rattle.lattice.specs.Grid.{n_of, Limits}
 use Rattle.lattice.specs.Lattice.{FullLattice, edges_of, is_wall}
-use Rattle.numbers.specs.Lists.{tabulate, before, laid, laid_by}
+use Rattle.numbers.specs.Lists.{tabulate, before, laid_by}
 use Rattle.lattice.specs.Levels.{target, line_at, three_at}
 use Rattle.lattice.specs.Line.{packed, ends_of, coarser_ends, nodes_of, Held, LineOver}
 use Rattle.lattice.specs.Stretched.{across_map}
 use Rattle.lattice.proofs.GridLaws.{n_most}
 use Rattle.lattice.proofs.LevelLaws.{line_over}
 use Rattle.lattice.proofs.LineLaws.{length_ends, ends_at, ends_packed, over_held, length_nodes, nodes_at_lem}
-use Rattle.numbers.proofs.ListLaws.{rises_below, laid_behind_laid, laid_none, laid_one}
+use Rattle.numbers.proofs.ListLaws.{Puts, puts_read, rises_below, laid_none, laid_append}
 use Rattle.numbers.proofs.TabulateLaws.{length_tabulate}
 use Rattle.weights.specs.TwoLevels.{TwoLevels, fine_line, coarse_line, fine_cells, coarse_cells, two_of}
 use Rattle.weights.specs.Tables.{lines_in}
@@ -39,132 +39,63 @@ use Rattle.lattice.proofs.Equations.{edges_of_0, edges_of_1, edges_of_2, line_at
 use Rattle.weights.proofs.Equations.{fine_cells_is, coarse_cells_is, lines_in_0, lines_in_1, lines_in_2}
 use Rattle.weights.proofs.PairLaws.{node_below, node_most, paired_at}
 use Rattle.operators.specs.declared.averaged.Hat.{Hat}
-use Rattle.operators.specs.Averaged.{hat_weight, wrapped_place, walk, node_in, hat_place, node_before, lower_hats, hat_above, upper_hats, around, hats_around, hat_nodes, hat_weights, HatsLaid, NodesFrom, hat_at, hats_in, Hats, AxisHats, LinePair, PairedLines}
+use Rattle.operators.specs.Averaged.{hat_weight, wrapped_place, walk, node_in, hat_place, node_before, lower_hats, hat_above, upper_hats, around, hats_around, HatsLaid, NodesFrom, no_hat, hat_at, hats_in, Hats, AxisHats, LinePair, PairedLines}
 use Rattle.operators.proofs.NeighbourSpots.{low3}
 use Rattle.numbers.proofs.ElementLaws.{laid_long, laid_apart, before_reached}
 use Rattle.lattice.proofs.PlaceLaws.{cells_packed}
 use Rattle.weights.proofs.LevelLines.{two_base, two_fine, two_coarse}
 
--- ---- hats laid over two lists: none, one, one list of them behind another
+-- ---- hats laid over a list
 
-nodes_long : (hs : List Hat) → length (hat_nodes hs) ≡ length hs
-unfolding hat_nodes
-nodes_long [] = refl
-nodes_long (h ∷ hs) = ap suc (nodes_long hs)
+-- a list of hats as places
+hat_puts : Puts set hat_at length
+hat_puts = record { keeps = length-set; same = λ xs k v. get_or-set_same xs k v no_hat; other = λ xs k j v. get_or-set_other xs k j v no_hat }
 
-weights_long : (hs : List Hat) → length (hat_weights hs) ≡ length hs
-unfolding hat_weights
-weights_long [] = refl
-weights_long (h ∷ hs) = ap suc (weights_long hs)
-
-nodes_append : (hs gs : List Hat) → hat_nodes (hs ++ gs) ≡ hat_nodes hs ++ hat_nodes gs
-unfolding hat_nodes
-nodes_append [] gs = refl
-nodes_append (h ∷ hs) gs = ap (λ (ns : List ℕ). h.node ∷ ns) (nodes_append hs gs)
-
-weights_append : (hs gs : List Hat) → hat_weights (hs ++ gs) ≡ hat_weights hs ++ hat_weights gs
-unfolding hat_weights
-weights_append [] gs = refl
-weights_append (h ∷ hs) gs = ap (λ (ws : List Float). h.weight ∷ ws) (weights_append hs gs)
-
-pub hats_none : {ns : List ℕ} {ws : List Float} {k : ℕ} → HatsLaid ns ws k [] ns ws k
-unfolding hat_nodes hat_weights
-hats_none = record { nodes = laid_none.list; weights = laid_none.list; next = omega arith }
-
--- where a list ends before the place, it stays as it is
-pub hats_one : {ns ns' : List ℕ} {ws ws' : List Float} {k : ℕ} (h : Hat) → ns' ≡ set ns k h.node → ws' ≡ set ws k h.weight
-    → HatsLaid ns ws k (h ∷ []) ns' ws' (k + 1)
-unfolding hat_nodes hat_weights
-hats_one {k = k} h p q = record { nodes = (laid_one {k = k} p refl).list; weights = (laid_one {k = k} q refl).list; next = refl }
-
-pub hats_append : {ns ns' ns'' : List ℕ} {ws ws' ws'' : List Float} {k r s : ℕ} {hs gs : List Hat}
-    → HatsLaid ns ws k hs ns' ws' r → HatsLaid ns' ws' r gs ns'' ws'' s → HatsLaid ns ws k (hs ++ gs) ns'' ws'' s
-hats_append {ns} {ns'} {ns''} {ws} {ws'} {ws''} {k} {r} {s} {hs} {gs} p q =
-    record {
-      nodes = q.nodes ∙ ap (λ (l : List ℕ). laid l r (hat_nodes gs)) p.nodes
-          ∙ sym (laid_behind_laid set ns k (hat_nodes hs) (hat_nodes gs) r (omega (arith, p.next, nodes_long hs)))
-          ∙ ap (λ (l : List ℕ). laid ns k l) (sym (nodes_append hs gs));
-      weights = q.weights ∙ ap (λ (l : List Float). laid_by set l r (hat_weights gs)) p.weights
-          ∙ sym (laid_behind_laid set ws k (hat_weights hs) (hat_weights gs) r (omega (arith, p.next, weights_long hs)))
-          ∙ ap (λ (l : List Float). laid_by set ws k l) (sym (weights_append hs gs));
-      next = omega (arith, p.next, q.next, length-append hs gs);
-    }
-
--- the lists keep their lengths
-module _ {ns ns' : List ℕ} {ws ws' : List Float} {k r : ℕ} {hs : List Hat} (p : HatsLaid ns ws k hs ns' ws' r) where
-  pub hats_nodes_same : length ns' ≡ length ns
-  hats_nodes_same = ap length p.nodes ∙ laid_long ns k (hat_nodes hs)
-
-  pub hats_weights_same : length ws' ≡ length ws
-  hats_weights_same = ap length p.weights ∙ laid_long ws k (hat_weights hs)
+-- the list keeps its length
+pub hats_same : {xs ys : List Hat} {k r : ℕ} {hs : List Hat} → HatsLaid xs k hs ys r → length ys ≡ length xs
+hats_same {xs} {k = k} {hs = hs} p = ap length p.list ∙ laid_long xs k hs
 
 -- the same hats by another name
-pub hats_as : {ns ns' : List ℕ} {ws ws' : List Float} {k r : ℕ} {hs gs : List Hat} → HatsLaid ns ws k hs ns' ws' r → hs ≡ gs → HatsLaid ns ws k gs ns' ws' r
+pub hats_as : {xs ys : List Hat} {k r : ℕ} {hs gs : List Hat} → HatsLaid xs k hs ys r → hs ≡ gs → HatsLaid xs k gs ys r
 hats_as p e = rw e at p
 
 -- a loop that lays hats: what is left, laid from here, comes to what the whole gives from the start
-pub record HatsLeft (ns₀ : List ℕ) (ws₀ : List Float) (from : ℕ) (whole : List Hat) (ns : List ℕ) (ws : List Float) (k : ℕ) (rest : List Hat) : Type 0 where
-  pub nodes_long : length ns ≡ length ns₀
-  pub weights_long : length ws ≡ length ws₀
-  pub nodes : laid ns k (hat_nodes rest) ≡ laid ns₀ from (hat_nodes whole)
-  pub weights : laid_by set ws k (hat_weights rest) ≡ laid_by set ws₀ from (hat_weights whole)
+pub record HatsLeft (xs₀ : List Hat) (from : ℕ) (whole : List Hat) (xs : List Hat) (k : ℕ) (rest : List Hat) : Type 0 where
+  pub long : length xs ≡ length xs₀
+  pub same : laid_by set xs k rest ≡ laid_by set xs₀ from whole
   pub ends : k + length rest ≡ from + length whole
 
-left_start : {ns : List ℕ} {ws : List Float} {k : ℕ} {hs : List Hat} → HatsLeft ns ws k hs ns ws k hs
-left_start = record { nodes_long = refl; weights_long = refl; nodes = refl; weights = refl; ends = refl }
+left_start : {xs : List Hat} {k : ℕ} {hs : List Hat} → HatsLeft xs k hs xs k hs
+left_start = record { long = refl; same = refl; ends = refl }
 
-left_one : {ns₀ ns ns' : List ℕ} {ws₀ ws ws' : List Float} {from k r : ℕ} {whole : List Hat} (h : Hat) (rest : List Hat)
-    → HatsLeft ns₀ ws₀ from whole ns ws k (h ∷ rest) → HatsLaid ns ws k (h ∷ []) ns' ws' r → HatsLeft ns₀ ws₀ from whole ns' ws' r rest
-unfolding hat_nodes hat_weights
-left_one {ns₀} {ns} {ns'} {ws₀} {ws} {ws'} {from} {k} {r} h rest p q =
+left_one : {xs₀ xs ys : List Hat} {from k r : ℕ} {whole : List Hat} (h : Hat) (rest : List Hat)
+    → HatsLeft xs₀ from whole xs k (h ∷ rest) → HatsLaid xs k (h ∷ []) ys r → HatsLeft xs₀ from whole ys r rest
+left_one {xs₀} {xs} {ys} {from} {k} {r} h rest p q =
     let e : r ≡ suc k = omega (arith, q.next) in
-    let u : ns' ≡ set ns k h.node = q.nodes ∙ laid_by_cons set ns k h.node [] ∙ laid_by_nil set (set ns k h.node) (suc k) in
-    let v : ws' ≡ set ws k h.weight = q.weights ∙ laid_by_cons set ws k h.weight [] ∙ laid_by_nil set (set ws k h.weight) (suc k) in
+    let u : ys ≡ set xs k h = q.list ∙ laid_by_cons set xs k h [] ∙ laid_by_nil set (set xs k h) (suc k) in
     record {
-      nodes_long = ap length u ∙ length-set ns k h.node ∙ p.nodes_long;
-      weights_long = ap length v ∙ length-set ws k h.weight ∙ p.weights_long;
-      nodes = (λ i. laid (u i) (e i) (hat_nodes rest)) ∙ sym (laid_by_cons set ns k h.node (hat_nodes rest)) ∙ p.nodes;
-      weights = (λ i. laid_by set (v i) (e i) (hat_weights rest)) ∙ sym (laid_by_cons set ws k h.weight (hat_weights rest)) ∙ p.weights;
+      long = ap length u ∙ length-set xs k h ∙ p.long;
+      same = (λ i. laid_by set (u i) (e i) rest) ∙ sym (laid_by_cons set xs k h rest) ∙ p.same;
       ends = omega (arith, p.ends);
     }
 
-left_end : {ns₀ ns : List ℕ} {ws₀ ws : List Float} {from k : ℕ} {whole : List Hat} → HatsLeft ns₀ ws₀ from whole ns ws k [] → HatsLaid ns₀ ws₀ from whole ns ws k
-unfolding hat_nodes hat_weights
-left_end {ns = ns} {ws = ws} {k = k} p =
-    record { nodes = sym (laid_by_nil set ns k) ∙ p.nodes; weights = sym (laid_by_nil set ws k) ∙ p.weights; next = omega (arith, p.ends) }
+left_end : {xs₀ xs : List Hat} {from k : ℕ} {whole : List Hat} → HatsLeft xs₀ from whole xs k [] → HatsLaid xs₀ from whole xs k
+left_end {xs = xs} {k = k} p = record { list = sym (laid_by_nil set xs k) ∙ p.same; next = omega (arith, p.ends) }
 
 -- ---- hats read back
 
-pub hats_read : (ns : List ℕ) (ws : List Float) (k : ℕ) (hs : List Hat) → k + length hs ≤ length ns → k + length hs ≤ length ws
-    → hats_in (laid ns k (hat_nodes hs)) (laid_by set ws k (hat_weights hs)) k (length hs) ≡ hs
-unfolding hats_in hat_at hat_nodes hat_weights
-hats_read ns ws k [] a b = tabulate_zero (hat_at (laid ns k []) (laid_by set ws k [])) k
-hats_read ns ws k (h ∷ hs) a b =
-    let ns₁ : List ℕ = set ns k h.node in
-    let ws₁ : List Float = set ws k h.weight in
-    let p : get_or (laid ns₁ (suc k) (hat_nodes hs)) k 0 ≡ h.node =
-    laid_apart ns₁ (suc k) (hat_nodes hs) k 0 (λ i c e. omega arith) ∙ get_or-set_same ns k h.node 0 (omega arith) in
-    let q : get_or (laid_by set ws₁ (suc k) (hat_weights hs)) k nan ≡ h.weight =
-    laid_apart ws₁ (suc k) (hat_weights hs) k nan (λ i c e. omega arith) ∙ get_or-set_same ws k h.weight nan (omega arith) in
-    let rest : tabulate (hat_at (laid ns₁ (suc k) (hat_nodes hs)) (laid_by set ws₁ (suc k) (hat_weights hs))) (length hs) (suc k) ≡ hs =
-    hats_read ns₁ ws₁ (suc k) hs (omega (arith, length-set ns k h.node)) (omega (arith, length-set ws k h.weight)) in
-    rw (
-      laid_by_cons set ns k h.node (hat_nodes hs),
-      laid_by_cons set ws k h.weight (hat_weights hs),
-      tabulate_suc (hat_at (laid ns₁ (suc k) (hat_nodes hs)) (laid_by set ws₁ (suc k) (hat_weights hs))) (length hs) k,
-    )
-    (λ i. record { node = p i; weight = q i } ∷ rest i)
+hats_read : (xs : List Hat) (k : ℕ) (hs : List Hat) → k + length hs ≤ length xs → hats_in (laid_by set xs k hs) k (length hs) ≡ hs
+unfolding hats_in
+hats_read xs k hs h = puts_read hat_puts xs k hs h
 
--- two pairs of lists that agree where the hats stand
-hats_agree : (ns ns' : List ℕ) (ws ws' : List Float) (k n : ℕ) → ((i : ℕ) → k ≤ i → i < k + n → get_or ns' i 0 ≡ get_or ns i 0)
-    → ((i : ℕ) → k ≤ i → i < k + n → get_or ws' i nan ≡ get_or ws i nan) → hats_in ns' ws' k n ≡ hats_in ns ws k n
-unfolding hats_in hat_at
-hats_agree ns ns' ws ws' k zero p q = rw (tabulate_zero (hat_at ns' ws') k, tabulate_zero (hat_at ns ws) k)
-hats_agree ns ns' ws ws' k (suc n) p q =
-    let rest : tabulate (hat_at ns' ws') n (suc k) ≡ tabulate (hat_at ns ws) n (suc k) =
-    hats_agree ns ns' ws ws' (suc k) n (λ i a b. p i (omega arith) (omega arith)) (λ i a b. q i (omega arith) (omega arith)) in
-    rw (tabulate_suc (hat_at ns' ws') n k, tabulate_suc (hat_at ns ws) n k)
-    (λ i. record { node = p k (omega arith) (omega arith) i; weight = q k (omega arith) (omega arith) i } ∷ rest i)
+-- two lists that agree where the hats stand
+hats_agree : (xs ys : List Hat) (k n : ℕ) → ((i : ℕ) → k ≤ i → i < k + n → hat_at ys i ≡ hat_at xs i) → hats_in ys k n ≡ hats_in xs k n
+unfolding hats_in
+hats_agree xs ys k zero p = rw (tabulate_zero (hat_at ys) k, tabulate_zero (hat_at xs) k)
+hats_agree xs ys k (suc n) p =
+    let here : hat_at ys k ≡ hat_at xs k = p k (omega arith) (omega arith) in
+    let rest : tabulate (hat_at ys) n (suc k) ≡ tabulate (hat_at xs) n (suc k) = hats_agree xs ys (suc k) n (λ i a b. p i (omega arith) (omega arith)) in
+    rw (tabulate_suc (hat_at ys) n k, tabulate_suc (hat_at xs) n k) (λ i. here i ∷ rest i)
 
 -- ---- nodes below b
 
@@ -177,11 +108,11 @@ unfolding Below
 below_append b [] gs p q = q
 below_append b (h ∷ hs) gs p q = (p.0, below_append b hs gs p.1 q)
 
-pub below_in : (b : ℕ) (ns : List ℕ) (ws : List Float) (k n : ℕ) → Below b (hats_in ns ws k n) → (i q : ℕ) → i ≡ k + q → q < n → get_or ns i 0 < b
-unfolding Below hats_in hat_at
-below_in b ns ws k zero p i q e h = absurd (omega arith)
-below_in b ns ws k (suc n) p i zero e h = let d : i ≡ k = omega arith in rw d (rw (tabulate_suc (hat_at ns ws) n k) at p).0
-below_in b ns ws k (suc n) p i (suc q) e h = below_in b ns ws (suc k) n (rw (tabulate_suc (hat_at ns ws) n k) at p).1 i q (omega arith) (omega arith)
+pub below_in : (b : ℕ) (xs : List Hat) (k n : ℕ) → Below b (hats_in xs k n) → (i q : ℕ) → i ≡ k + q → q < n → (hat_at xs i).node < b
+unfolding Below hats_in
+below_in b xs k zero p i q e h = absurd (omega arith)
+below_in b xs k (suc n) p i zero e h = let d : i ≡ k = omega arith in rw d (rw (tabulate_suc (hat_at xs) n k) at p).0
+below_in b xs k (suc n) p i (suc q) e h = below_in b xs (suc k) n (rw (tabulate_suc (hat_at xs) n k) at p).1 i q (omega arith) (omega arith)
 
 -- ---- the walk over lower neighbours
 
@@ -263,23 +194,23 @@ module _ {l : Line} (held : Held l) where
 
 -- ---- the loop of the walk, at node q
 
-pub record Walking (f : Line) (at width first : ℕ) (ns₀ : List ℕ) (ws₀ : List Float) (from : ℕ) (ns : List ℕ) (ws : List Float) (k q : ℕ) : Type 0 where
+pub record Walking (f : Line) (at width first : ℕ) (xs₀ : List Hat) (from : ℕ) (xs : List Hat) (k q : ℕ) : Type 0 where
   pub begun : first ≤ q
   pub high : q ≤ f.cells
   pub next : k ≡ from + (q - first)
-  pub left : HatsLeft ns₀ ws₀ from (walk (ends_of f) at width f.cells first) ns ws k (walk (ends_of f) at width (f.cells - (q - first)) q)
+  pub left : HatsLeft xs₀ from (walk (ends_of f) at width f.cells first) xs k (walk (ends_of f) at width (f.cells - (q - first)) q)
 
-module _ {f : Line} {at width first : ℕ} {ns₀ : List ℕ} {ws₀ : List Float} {from : ℕ} where
-  pub walking_start : first ≤ f.cells → Walking f at width first ns₀ ws₀ from ns₀ ws₀ from first
+module _ {f : Line} {at width first : ℕ} {xs₀ : List Hat} {from : ℕ} where
+  pub walking_start : first ≤ f.cells → Walking f at width first xs₀ from xs₀ from first
   walking_start h =
       let e : f.cells - (first - first) ≡ f.cells = omega arith in
       record { begun = omega arith; high = h; next = omega arith; left = rw e left_start }
 
   -- a node below: its hat is laid
-  pub walking_turn : {ns ns' : List ℕ} {ws ws' : List Float} {k q r place : ℕ} {w : Float} → Held f → 1 ≤ first → at ≤ get_or f.ends f.cells 0
-      → Walking f at width first ns₀ ws₀ from ns ws k q → place ≡ wrapped_place (ends_of f) q → place < at → w ≡ hat_weight (at - place) width
-      → HatsLaid ns ws k (record { node = q % f.cells; weight = w } ∷ []) ns' ws' r → Walking f at width first ns₀ ws₀ from ns' ws' r (q + 1)
-  walking_turn {ns} {ns'} {ws} {ws'} {k} {q} {r} {place} {w} held a b p e h g o =
+  pub walking_turn : {xs ys : List Hat} {k q r place : ℕ} {w : Float} → Held f → 1 ≤ first → at ≤ get_or f.ends f.cells 0
+      → Walking f at width first xs₀ from xs k q → place ≡ wrapped_place (ends_of f) q → place < at → w ≡ hat_weight (at - place) width
+      → HatsLaid xs k (record { node = q % f.cells; weight = w } ∷ []) ys r → Walking f at width first xs₀ from ys r (q + 1)
+  walking_turn {xs} {ys} {k} {q} {r} {place} {w} held a b p e h g o =
       let low : q < f.cells = wrapped_before held at q b (rw (← e) h) in
       let n : f.cells - (q - first) ≡ suc (f.cells - (q + 1 - first)) = omega (arith, p.begun) in
       let rest : List Hat = walk (ends_of f) at width (f.cells - (q + 1 - first)) (q + 1) in
@@ -293,27 +224,27 @@ module _ {f : Line} {at width first : ℕ} {ns₀ : List ℕ} {ws₀ : List Floa
       }
 
   -- the first that is not below
-  pub walking_end : {ns : List ℕ} {ws : List Float} {k q place : ℕ} → Walking f at width first ns₀ ws₀ from ns ws k q → place ≡ wrapped_place (ends_of f) q → at ≤ place
-      → HatsLaid ns₀ ws₀ from (walk (ends_of f) at width f.cells first) ns ws k
-  walking_end {ns} {ws} {k} {q} {place} p e h =
+  pub walking_end : {xs : List Hat} {k q place : ℕ} → Walking f at width first xs₀ from xs k q → place ≡ wrapped_place (ends_of f) q → at ≤ place
+      → HatsLaid xs₀ from (walk (ends_of f) at width f.cells first) xs k
+  walking_end {xs} {k} {q} {place} p e h =
       left_end (rw (walk_stop (ends_of f) at width (f.cells - (q - first)) q (omega arith)) at p.left)
 
 -- ---- the loop over the nodes above, at node q
 
-pub record Climbing (f : Line) (at width first last : ℕ) (ns₀ : List ℕ) (ws₀ : List Float) (from : ℕ) (ns : List ℕ) (ws : List Float) (k q : ℕ) : Type 0 where
+pub record Climbing (f : Line) (at width first last : ℕ) (xs₀ : List Hat) (from : ℕ) (xs : List Hat) (k q : ℕ) : Type 0 where
   pub begun : first ≤ q
   pub next : k ≡ from + (q - first)
-  pub left : HatsLeft ns₀ ws₀ from (tabulate (hat_above (ends_of f) at width) (last - first) first) ns ws k (tabulate (hat_above (ends_of f) at width) (last - q) q)
+  pub left : HatsLeft xs₀ from (tabulate (hat_above (ends_of f) at width) (last - first) first) xs k (tabulate (hat_above (ends_of f) at width) (last - q) q)
 
-module _ {f : Line} {at width first last : ℕ} {ns₀ : List ℕ} {ws₀ : List Float} {from : ℕ} where
-  pub climbing_start : Climbing f at width first last ns₀ ws₀ from ns₀ ws₀ from first
+module _ {f : Line} {at width first last : ℕ} {xs₀ : List Hat} {from : ℕ} where
+  pub climbing_start : Climbing f at width first last xs₀ from xs₀ from first
   climbing_start = record { begun = omega arith; next = omega arith; left = left_start }
 
-  pub climbing_turn : {ns ns' : List ℕ} {ws ws' : List Float} {k q r : ℕ} {w : Float} → last ≤ f.cells
-      → Climbing f at width first last ns₀ ws₀ from ns ws k q → q < last → w ≡ hat_weight (get_or f.ends q 0 - at) width
-      → HatsLaid ns ws k (record { node = q; weight = w } ∷ []) ns' ws' r → Climbing f at width first last ns₀ ws₀ from ns' ws' r (q + 1)
+  pub climbing_turn : {xs ys : List Hat} {k q r : ℕ} {w : Float} → last ≤ f.cells
+      → Climbing f at width first last xs₀ from xs k q → q < last → w ≡ hat_weight (get_or f.ends q 0 - at) width
+      → HatsLaid xs k (record { node = q; weight = w } ∷ []) ys r → Climbing f at width first last xs₀ from ys r (q + 1)
   unfolding hat_above
-  climbing_turn {ns} {ns'} {ws} {ws'} {k} {q} {r} {w} a p h g o =
+  climbing_turn {xs} {ys} {k} {q} {r} {w} a p h g o =
       let n : last - q ≡ suc (last - (q + 1)) = omega arith in
       let rest : List Hat = tabulate (hat_above (ends_of f) at width) (last - (q + 1)) (q + 1) in
       let t : tabulate (hat_above (ends_of f) at width) (last - q) q ≡ record { node = q; weight = w } ∷ rest =
@@ -324,9 +255,9 @@ module _ {f : Line} {at width first last : ℕ} {ns₀ : List ℕ} {ws₀ : List
         left = left_one (record { node = q; weight = w }) rest (rw t at p.left) o;
       }
 
-  pub climbing_end : {ns : List ℕ} {ws : List Float} {k q : ℕ} → Climbing f at width first last ns₀ ws₀ from ns ws k q → last ≤ q
-      → HatsLaid ns₀ ws₀ from (tabulate (hat_above (ends_of f) at width) (last - first) first) ns ws k
-  climbing_end {ns} {ws} {k} {q} p h =
+  pub climbing_end : {xs : List Hat} {k q : ℕ} → Climbing f at width first last xs₀ from xs k q → last ≤ q
+      → HatsLaid xs₀ from (tabulate (hat_above (ends_of f) at width) (last - first) first) xs k
+  climbing_end {xs} {k} {q} p h =
       let n : last - q ≡ 0 = omega arith in
       left_end (rw (n, tabulate_zero (hat_above (ends_of f) at width) q) at p.left)
 
@@ -463,12 +394,12 @@ module _ {f c : Line} (pair : LinePair f c) where
       (omega (arith, coarse_rise i j h k), omega (arith, pair.coarse_held.low j k))
 
   -- none before a wall
-  pub lower_wall : {ns : List ℕ} {ws : List Float} {from : ℕ} (wall : Bool) (m : ℕ) → m ≡ 0 → wall ≡ true → HatsLaid ns ws from (lower_hats wall (ends_of f) (ends_of c) m) ns ws from
-  lower_wall wall m e p = rw (p, lower_zero m e) hats_none
+  pub lower_wall : {xs : List Hat} {from : ℕ} (wall : Bool) (m : ℕ) → m ≡ 0 → wall ≡ true → HatsLaid xs from (lower_hats wall (ends_of f) (ends_of c) m) xs from
+  lower_wall wall m e p = rw (p, lower_zero m e) laid_none
 
   -- where the nodes below end
-  pub lower_next : {ns ns' : List ℕ} {ws ws' : List Float} {from r : ℕ} (wall : Bool) (m : ℕ) → m < c.cells
-      → HatsLaid ns ws from (lower_hats wall (ends_of f) (ends_of c) m) ns' ws' r → r ≤ from + 63
+  pub lower_next : {xs ys : List Hat} {from r : ℕ} (wall : Bool) (m : ℕ) → m < c.cells
+      → HatsLaid xs from (lower_hats wall (ends_of f) (ends_of c) m) ys r → r ≤ from + 63
   lower_next wall m h p = omega (arith, p.next, lower_most wall m h)
 
   -- ---- as the code has them, the numbers of the coarse nodes in a list
@@ -514,127 +445,110 @@ module _ {f c : Line} (pair : LinePair f c) where
         let up : get_or es k 0 < get_or es q 0 = rises_below es pair.fine_rises k q (omega arith) (omega arith) in
         omega (arith, ends_at c m (omega arith), ends_at f q (omega arith))
 
-    module _ {ns ns' : List ℕ} {ws ws' : List Float} {from r : ℕ} where
+    module _ {xs ys : List Hat} {from r : ℕ} where
       pub lower_around : (wall : Bool) (m : ℕ) {i : ℕ} → i ≡ o + (c.cells - 1) → m ≡ 0 → wall ≡ false
-          → HatsLaid ns ws from (walk (ends_of f) (get_or c.ends c.cells 0) (get_or c.ends c.cells 0 - get_or c.ends (c.cells - 1) 0) f.cells (get_or nn i 0 + 1)) ns' ws' r
-          → HatsLaid ns ws from (lower_hats wall (ends_of f) (ends_of c) m) ns' ws' r
+          → HatsLaid xs from (walk (ends_of f) (get_or c.ends c.cells 0) (get_or c.ends c.cells 0 - get_or c.ends (c.cells - 1) 0) f.cells (get_or nn i 0 + 1)) ys r
+          → HatsLaid xs from (lower_hats wall (ends_of f) (ends_of c) m) ys r
       lower_around wall m d e p w = rw (p, ← lower_first m e, ← number_at_lem (c.cells - 1) d (omega arith)) w
 
       pub lower_inside : (wall : Bool) (m : ℕ) {i : ℕ} → i ≡ o + (m - 1) → m < c.cells → (m ≡ 0 → ⊥)
-          → HatsLaid ns ws from (walk (ends_of f) (get_or c.ends m 0) (get_or c.ends m 0 - get_or c.ends (m - 1) 0) f.cells (get_or nn i 0 + 1)) ns' ws' r
-          → HatsLaid ns ws from (lower_hats wall (ends_of f) (ends_of c) m) ns' ws' r
+          → HatsLaid xs from (walk (ends_of f) (get_or c.ends m 0) (get_or c.ends m 0 - get_or c.ends (m - 1) 0) f.cells (get_or nn i 0 + 1)) ys r
+          → HatsLaid xs from (lower_hats wall (ends_of f) (ends_of c) m) ys r
       lower_inside wall m d h e w = rw (← lower_later wall m h e, ← number_at_lem (m - 1) d (omega arith)) w
 
     -- the nodes below, the node, the nodes above
-    pub around_laid : {ns ns₁ ns₂ ns₃ : List ℕ} {ws ws₁ ws₂ ws₃ : List Float} {from k k₁ r : ℕ} (wall : Bool) (m : ℕ) → m < c.cells
-        → HatsLaid ns ws from (lower_hats wall (ends_of f) (ends_of c) m) ns₁ ws₁ k
-        → HatsLaid ns₁ ws₁ k (record { node = get_or nn (o + m) 0; weight = one_f } ∷ []) ns₂ ws₂ k₁
-        → HatsLaid ns₂ ws₂ k₁ (tabulate (hat_above (ends_of f) (get_or c.ends m 0) (get_or c.ends (m + 1) 0 - get_or c.ends m 0)) (get_or nn (o + m + 1) 0 - (get_or nn (o + m) 0 + 1)) (get_or nn (o + m) 0 + 1)) ns₃ ws₃ r
-        → HatsLaid ns ws from (around wall (ends_of f) (ends_of c) m) ns₃ ws₃ r
+    pub around_laid : {xs xs₁ xs₂ xs₃ : List Hat} {from k k₁ r : ℕ} (wall : Bool) (m : ℕ) → m < c.cells
+        → HatsLaid xs from (lower_hats wall (ends_of f) (ends_of c) m) xs₁ k
+        → HatsLaid xs₁ k (record { node = get_or nn (o + m) 0; weight = one_f } ∷ []) xs₂ k₁
+        → HatsLaid xs₂ k₁ (tabulate (hat_above (ends_of f) (get_or c.ends m 0) (get_or c.ends (m + 1) 0 - get_or c.ends m 0)) (get_or nn (o + m + 1) 0 - (get_or nn (o + m) 0 + 1)) (get_or nn (o + m) 0 + 1)) xs₃ r
+        → HatsLaid xs from (around wall (ends_of f) (ends_of c) m) xs₃ r
     unfolding around
     around_laid wall m h p q u =
         let d : o + m + 1 ≡ o + (m + 1) = omega arith in
-        hats_append p
-        (hats_append (rw (number_at_lem m refl (omega arith)) at q)
+        laid_append p
+        (laid_append (rw (number_at_lem m refl (omega arith)) at q)
         (hats_as (rw (number_at_lem m refl (omega arith), number_at_lem (m + 1) d (omega arith)) at u) (upper_is m h)))
 
 -- ---- the lists of an axis: node m has the 128 places of block 64 a + m
 
 -- a block that is not laid over stays as it is
-module _ {ns ns' : List ℕ} {ws ws' : List Float} {b r : ℕ} {hs : List Hat} (p : HatsLaid ns ws (128 * b) hs ns' ws' r) (few : length hs ≤ 127) (d q : ℕ) where
-  pub block_node : (d ≡ b → ⊥) → q < 128 → get_or ns' (128 * d + q) 0 ≡ get_or ns (128 * d + q) 0
-  block_node e h =
-      ap (λ (ks : List ℕ). get_or ks (128 * d + q) 0) p.nodes
-      ∙ laid_apart ns (128 * b) (hat_nodes hs) (128 * d + q) 0 (λ i c o. e (omega (arith, nodes_long hs)))
-
-  pub block_weight : (d ≡ b → ⊥) → q < 128 → get_or ws' (128 * d + q) nan ≡ get_or ws (128 * d + q) nan
-  block_weight e h =
-      ap (λ (vs : List Float). get_or vs (128 * d + q) nan) p.weights
-      ∙ laid_apart ws (128 * b) (hat_weights hs) (128 * d + q) nan (λ i c o. e (omega (arith, weights_long hs)))
+pub block_apart : {xs ys : List Hat} {b r : ℕ} {hs : List Hat} → HatsLaid xs (128 * b) hs ys r → length hs ≤ 127 → (d q : ℕ) → (d ≡ b → ⊥) → q < 128
+    → hat_at ys (128 * d + q) ≡ hat_at xs (128 * d + q)
+block_apart {xs} {b = b} {hs = hs} p few d q e h =
+    ap (λ (l : List Hat). hat_at l (128 * d + q)) p.list ∙ laid_apart xs (128 * b) hs (128 * d + q) no_hat (λ i c o. e (omega arith))
 
 -- a block that is laid over
-pub block_read : {ns ns' : List ℕ} {ws ws' : List Float} {r : ℕ} {hs : List Hat} (b : ℕ) → HatsLaid ns ws (128 * b) hs ns' ws' r → length hs ≤ 127
-    → 128 * b + 128 ≤ length ns → 128 * b + 128 ≤ length ws → hats_in ns' ws' (128 * b) (length hs) ≡ hs
-block_read {ns} {ns'} {ws} {ws'} {r} {hs} b p few a c =
-    (λ i. hats_in (p.nodes i) (p.weights i) (128 * b) (length hs)) ∙ hats_read ns ws (128 * b) hs (omega arith) (omega arith)
+pub block_read : {xs ys : List Hat} {r : ℕ} {hs : List Hat} (b : ℕ) → HatsLaid xs (128 * b) hs ys r → length hs ≤ 127
+    → 128 * b + 128 ≤ length xs → hats_in ys (128 * b) (length hs) ≡ hs
+block_read {xs} {hs = hs} b p few a = ap (λ (l : List Hat). hats_in l (128 * b) (length hs)) p.list ∙ hats_read xs (128 * b) hs (omega arith)
 
--- a block is the same in two pairs of lists
-pub block_same : (ns ns' : List ℕ) (ws ws' : List Float) (b n : ℕ) → n ≤ 127 → ((q : ℕ) → q < 128 → get_or ns' (128 * b + q) 0 ≡ get_or ns (128 * b + q) 0)
-    → ((q : ℕ) → q < 128 → get_or ws' (128 * b + q) nan ≡ get_or ws (128 * b + q) nan) → hats_in ns' ws' (128 * b) n ≡ hats_in ns ws (128 * b) n
-block_same ns ns' ws ws' b n few p q =
-    hats_agree ns ns' ws ws' (128 * b) n
+-- a block is the same in two lists
+pub block_same : (xs ys : List Hat) (b n : ℕ) → n ≤ 127 → ((q : ℕ) → q < 128 → hat_at ys (128 * b + q) ≡ hat_at xs (128 * b + q))
+    → hats_in ys (128 * b) n ≡ hats_in xs (128 * b) n
+block_same xs ys b n few p =
+    hats_agree xs ys (128 * b) n
     (λ i h k. let e : 128 * b + (i - 128 * b) ≡ i = omega arith in rw e at (p (i - 128 * b) (omega arith)))
-    (λ i h k. let e : 128 * b + (i - 128 * b) ≡ i = omega arith in rw e at (q (i - 128 * b) (omega arith)))
 
 -- what the lists of an axis say of its first n nodes
-record AxisDone (wall : Bool) (es cs : List ℕ) (a n : ℕ) (ns : List ℕ) (ws : List Float) (ks : List ℕ) : Type 0 where
+record AxisDone (wall : Bool) (es cs : List ℕ) (a n : ℕ) (xs : List Hat) (ks : List ℕ) : Type 0 where
   few : (m : ℕ) → m < n → get_or ks (64 * a + m) 0 ≤ 127
-  are : (m : ℕ) → m < n → hats_in ns ws (128 * (64 * a + m)) (get_or ks (64 * a + m) 0) ≡ around wall es cs m
+  are : (m : ℕ) → m < n → hats_in xs (128 * (64 * a + m)) (get_or ks (64 * a + m) 0) ≡ around wall es cs m
 
-done_of : {wall : Bool} {es cs : List ℕ} {a n : ℕ} {ns₀ ns : List ℕ} {ws₀ ws : List Float} {ks₀ ks : List ℕ}
-    → AxisHats wall es cs a n ns₀ ws₀ ks₀ ns ws ks → AxisDone wall es cs a n ns ws ks
+done_of : {wall : Bool} {es cs : List ℕ} {a n : ℕ} {xs₀ xs : List Hat} {ks₀ ks : List ℕ} → AxisHats wall es cs a n xs₀ ks₀ xs ks → AxisDone wall es cs a n xs ks
 done_of p = record { few = p.few; are = p.hats_are }
 
 -- they are still there where those blocks are the same
-done_kept : {wall : Bool} {es cs : List ℕ} {a n : ℕ} {ns ns' : List ℕ} {ws ws' : List Float} {ks ks' : List ℕ} → AxisDone wall es cs a n ns ws ks
+done_kept : {wall : Bool} {es cs : List ℕ} {a n : ℕ} {xs ys : List Hat} {ks ks' : List ℕ} → AxisDone wall es cs a n xs ks
     → ((m : ℕ) → m < n → get_or ks' (64 * a + m) 0 ≡ get_or ks (64 * a + m) 0)
-    → ((m q : ℕ) → m < n → q < 128 → get_or ns' (128 * (64 * a + m) + q) 0 ≡ get_or ns (128 * (64 * a + m) + q) 0)
-    → ((m q : ℕ) → m < n → q < 128 → get_or ws' (128 * (64 * a + m) + q) nan ≡ get_or ws (128 * (64 * a + m) + q) nan)
-    → AxisDone wall es cs a n ns' ws' ks'
-done_kept {wall} {es} {cs} {a} {n} {ns} {ns'} {ws} {ws'} {ks} {ks'} p c u v =
+    → ((m q : ℕ) → m < n → q < 128 → hat_at ys (128 * (64 * a + m) + q) ≡ hat_at xs (128 * (64 * a + m) + q))
+    → AxisDone wall es cs a n ys ks'
+done_kept {wall} {es} {cs} {a} {n} {xs} {ys} {ks} {ks'} p c u =
     record {
       few = λ m h. rw (c m h) (p.few m h);
-      are = λ m h.
-          rw (c m h)
-          (block_same ns ns' ws ws' (64 * a + m) (get_or ks (64 * a + m) 0) (p.few m h) (λ q b. u m q h b) (λ q b. v m q h b) ∙ p.are m h);
+      are = λ m h. rw (c m h) (block_same xs ys (64 * a + m) (get_or ks (64 * a + m) 0) (p.few m h) (λ q b. u m q h b) ∙ p.are m h);
     }
 
 -- the nodes of the hats that stand there are on the line
-done_in : {f c : Line} {wall : Bool} {a n : ℕ} {ns : List ℕ} {ws : List Float} {ks : List ℕ} → LinePair f c → n ≤ c.cells
-    → AxisDone wall (ends_of f) (ends_of c) a n ns ws ks
-    → (m q : ℕ) → m < n → q < get_or ks (64 * a + m) 0 → get_or ns (128 * (64 * a + m) + q) 0 < length (ends_of f) - 1
-done_in {f} {c} {wall} {a} {n} {ns} {ws} {ks} pair low p m q h k =
-    below_in (length (ends_of f) - 1) ns ws (128 * (64 * a + m)) (get_or ks (64 * a + m) 0)
+done_in : {f c : Line} {wall : Bool} {a n : ℕ} {xs : List Hat} {ks : List ℕ} → LinePair f c → n ≤ c.cells
+    → AxisDone wall (ends_of f) (ends_of c) a n xs ks
+    → (m q : ℕ) → m < n → q < get_or ks (64 * a + m) 0 → (hat_at xs (128 * (64 * a + m) + q)).node < length (ends_of f) - 1
+done_in {f} {c} {wall} {a} {n} {xs} {ks} pair low p m q h k =
+    below_in (length (ends_of f) - 1) xs (128 * (64 * a + m)) (get_or ks (64 * a + m) 0)
     (rw (p.are m h) (around_below pair wall m (omega arith))) (128 * (64 * a + m) + q) q refl k
 
 -- ---- the loop over an axis's nodes
 
-module _ {wall : Bool} {es cs : List ℕ} {a : ℕ} {ns₀ : List ℕ} {ws₀ : List Float} {ks₀ : List ℕ} where
-  pub axis_start : AxisHats wall es cs a 0 ns₀ ws₀ ks₀ ns₀ ws₀ ks₀
+module _ {wall : Bool} {es cs : List ℕ} {a : ℕ} {xs₀ : List Hat} {ks₀ : List ℕ} where
+  pub axis_start : AxisHats wall es cs a 0 xs₀ ks₀ xs₀ ks₀
   axis_start =
       record {
-        nodes_long = refl;
-        weights_long = refl;
+        hats_long = refl;
         counts_long = refl;
         few = λ m h. absurd (omega arith);
         hats_are = λ m h. absurd (omega arith);
         nodes_in = λ m q h k. absurd (omega arith);
         others = λ b o. refl;
-        others_node = λ b q o h. refl;
-        others_weight = λ b q o h. refl;
+        others_hat = λ b q o h. refl;
       }
 
-  pub axis_end : {m n : ℕ} {ns : List ℕ} {ws : List Float} {ks : List ℕ} → AxisHats wall es cs a m ns₀ ws₀ ks₀ ns ws ks → m ≡ n
-      → AxisHats wall es cs a n ns₀ ws₀ ks₀ ns ws ks
+  pub axis_end : {m n : ℕ} {xs : List Hat} {ks : List ℕ} → AxisHats wall es cs a m xs₀ ks₀ xs ks → m ≡ n → AxisHats wall es cs a n xs₀ ks₀ xs ks
   axis_end p e = rw e at p
 
-module _ {f c : Line} {wall : Bool} {a : ℕ} {ns₀ : List ℕ} {ws₀ : List Float} {ks₀ : List ℕ} where
-  pub axis_turn : {m r : ℕ} {ns ns' : List ℕ} {ws ws' : List Float} {ks : List ℕ} → LinePair f c → a < 3
-      → (length ns₀ ≡ 24576) × (length ws₀ ≡ 24576) × (length ks₀ ≡ 192)
-      → AxisHats wall (ends_of f) (ends_of c) a m ns₀ ws₀ ks₀ ns ws ks → m < c.cells
-      → HatsLaid ns ws (128 * (64 * a + m)) (around wall (ends_of f) (ends_of c) m) ns' ws' r
-      → AxisHats wall (ends_of f) (ends_of c) a (m + 1) ns₀ ws₀ ks₀ ns' ws' (set ks (64 * a + m) (r - 128 * (64 * a + m)))
-  axis_turn {m} {r} {ns} {ns'} {ws} {ws'} {ks} pair low long p h o =
+module _ {f c : Line} {wall : Bool} {a : ℕ} {xs₀ : List Hat} {ks₀ : List ℕ} where
+  pub axis_turn : {m r : ℕ} {xs ys : List Hat} {ks : List ℕ} → LinePair f c → a < 3
+      → (length xs₀ ≡ 24576) × (length ks₀ ≡ 192)
+      → AxisHats wall (ends_of f) (ends_of c) a m xs₀ ks₀ xs ks → m < c.cells
+      → HatsLaid xs (128 * (64 * a + m)) (around wall (ends_of f) (ends_of c) m) ys r
+      → AxisHats wall (ends_of f) (ends_of c) a (m + 1) xs₀ ks₀ ys (set ks (64 * a + m) (r - 128 * (64 * a + m)))
+  axis_turn {m} {r} {xs} {ys} {ks} pair low long p h o =
       record {
-        nodes_long = hats_nodes_same o ∙ p.nodes_long;
-        weights_long = hats_weights_same o ∙ p.weights_long;
+        hats_long = hats_same o ∙ p.hats_long;
         counts_long = length-set ks b v ∙ p.counts_long;
         few = done.few;
         hats_are = done.are;
         nodes_in = done_in pair (omega arith) done;
         others = λ d w. get_or-set_other ks b d v 0 (apart d w) ∙ p.others d (older d w);
-        others_node = λ d q w k. block_node o most d q (apart d w) k ∙ p.others_node d q (older d w) k;
-        others_weight = λ d q w k. block_weight o most d q (apart d w) k ∙ p.others_weight d q (older d w) k;
+        others_hat = λ d q w k. block_apart o most d q (apart d w) k ∙ p.others_hat d q (older d w) k;
       }
     where
       b : ℕ
@@ -656,7 +570,7 @@ module _ {f c : Line} {wall : Bool} {a : ℕ} {ns₀ : List ℕ} {ws₀ : List F
       cells = pair.coarse_held.most
 
       here : get_or (set ks b v) b 0 ≡ length hs
-      here = get_or-set_same ks b v 0 (omega (arith, p.counts_long, long.2)) ∙ count
+      here = get_or-set_same ks b v 0 (omega (arith, p.counts_long, long.1)) ∙ count
 
       apart : (d : ℕ) → d < 64 * a ⊎ 64 * a + (m + 1) ≤ d → d ≡ b → ⊥
       apart d w e = ⊎_elim (λ k. omega arith) (λ k. omega arith) w
@@ -664,77 +578,74 @@ module _ {f c : Line} {wall : Bool} {a : ℕ} {ns₀ : List ℕ} {ws₀ : List F
       older : (d : ℕ) → d < 64 * a ⊎ 64 * a + (m + 1) ≤ d → d < 64 * a ⊎ 64 * a + m ≤ d
       older d w = ⊎_elim (λ k. inl k) (λ k. inr (omega arith)) w
 
-      kept : AxisDone wall (ends_of f) (ends_of c) a m ns' ws' (set ks b v)
+      kept : AxisDone wall (ends_of f) (ends_of c) a m ys (set ks b v)
       kept =
           done_kept (done_of p)
           (λ i k. get_or-set_other ks b (64 * a + i) v 0 (λ e. omega arith))
-          (λ i q k l. block_node o most (64 * a + i) q (λ e. omega arith) l)
-          (λ i q k l. block_weight o most (64 * a + i) q (λ e. omega arith) l)
+          (λ i q k l. block_apart o most (64 * a + i) q (λ e. omega arith) l)
 
-      done : AxisDone wall (ends_of f) (ends_of c) a (m + 1) ns' ws' (set ks b v)
+      done : AxisDone wall (ends_of f) (ends_of c) a (m + 1) ys (set ks b v)
       done =
           record {
             few = below_more (λ (i : ℕ). get_or (set ks b v) (64 * a + i) 0 ≤ 127) m kept.few (rw here most);
-            are = below_more (λ (i : ℕ). hats_in ns' ws' (128 * (64 * a + i)) (get_or (set ks b v) (64 * a + i) 0) ≡ around wall (ends_of f) (ends_of c) i) m kept.are
-                (rw here (block_read b o most (omega (arith, p.nodes_long, long.0)) (omega (arith, p.weights_long, long.1))));
+            are = below_more (λ (i : ℕ). hats_in ys (128 * (64 * a + i)) (get_or (set ks b v) (64 * a + i) 0) ≡ around wall (ends_of f) (ends_of c) i) m kept.are
+                (rw here (block_read b o most (omega (arith, p.hats_long, long.0))));
           }
 
 -- ---- the three axes
 
 -- an axis's hats are still there when a later axis's have been laid
-axis_kept : {wall wall' : Bool} {es es' cs cs' : List ℕ} {a b n n' : ℕ} {ns ns' : List ℕ} {ws ws' : List Float} {ks ks' : List ℕ} → n ≤ 64 → a < b
-    → AxisHats wall' es' cs' b n' ns ws ks ns' ws' ks' → AxisDone wall es cs a n ns ws ks → AxisDone wall es cs a n ns' ws' ks'
+axis_kept : {wall wall' : Bool} {es es' cs cs' : List ℕ} {a b n n' : ℕ} {xs ys : List Hat} {ks ks' : List ℕ} → n ≤ 64 → a < b
+    → AxisHats wall' es' cs' b n' xs ks ys ks' → AxisDone wall es cs a n xs ks → AxisDone wall es cs a n ys ks'
 axis_kept {a = a} h l q p =
     done_kept p
     (λ m k. q.others (64 * a + m) (inl (omega arith)))
-    (λ m i k o. q.others_node (64 * a + m) i (inl (omega arith)) o)
-    (λ m i k o. q.others_weight (64 * a + m) i (inl (omega arith)) o)
+    (λ m i k o. q.others_hat (64 * a + m) i (inl (omega arith)) o)
 
 -- the lists keep their lengths
-pub axis_long : {wall : Bool} {es cs : List ℕ} {a n i j k : ℕ} {ns ns' : List ℕ} {ws ws' : List Float} {ks ks' : List ℕ} → AxisHats wall es cs a n ns ws ks ns' ws' ks'
-    → (length ns ≡ i) × (length ws ≡ j) × (length ks ≡ k) → (length ns' ≡ i) × (length ws' ≡ j) × (length ks' ≡ k)
-axis_long p long = (p.nodes_long ∙ long.0, p.weights_long ∙ long.1, p.counts_long ∙ long.2)
+pub axis_long : {wall : Bool} {es cs : List ℕ} {a n i k : ℕ} {xs ys : List Hat} {ks ks' : List ℕ} → AxisHats wall es cs a n xs ks ys ks'
+    → (length xs ≡ i) × (length ks ≡ k) → (length ys ≡ i) × (length ks' ≡ k)
+axis_long p long = (p.hats_long ∙ long.0, p.counts_long ∙ long.1)
 
 -- what the lists say of an axis of two levels
-record AxisWhole (t : TwoLevels) (ns : List ℕ) (ws : List Float) (ks : List ℕ) (a : ℕ) : Type 0 where
-  done : AxisDone (is_wall (edges_of t.base a)) (fine_line t a) (coarse_line t a) a (coarse_cells t a) ns ws ks
-  inside : (m q : ℕ) → m < coarse_cells t a → q < get_or ks (64 * a + m) 0 → get_or ns (128 * (64 * a + m) + q) 0 < fine_cells t a
+record AxisWhole (t : TwoLevels) (xs : List Hat) (ks : List ℕ) (a : ℕ) : Type 0 where
+  done : AxisDone (is_wall (edges_of t.base a)) (fine_line t a) (coarse_line t a) a (coarse_cells t a) xs ks
+  inside : (m q : ℕ) → m < coarse_cells t a → q < get_or ks (64 * a + m) 0 → (hat_at xs (128 * (64 * a + m) + q)).node < fine_cells t a
 
-axis_whole : {t : TwoLevels} {ns : List ℕ} {ws : List Float} {ks : List ℕ} {a : ℕ} {f c : Line} {wall : Bool} → LinePair f c
+axis_whole : {t : TwoLevels} {xs : List Hat} {ks : List ℕ} {a : ℕ} {f c : Line} {wall : Bool} → LinePair f c
     → wall ≡ is_wall (edges_of t.base a) → ends_of f ≡ fine_line t a → ends_of c ≡ coarse_line t a
-    → AxisDone wall (ends_of f) (ends_of c) a c.cells ns ws ks → AxisWhole t ns ws ks a
-axis_whole {t} {ns} {ws} {ks} {a} {f} {c} {wall} pair w e d p =
+    → AxisDone wall (ends_of f) (ends_of c) a c.cells xs ks → AxisWhole t xs ks a
+axis_whole {t} {xs} {ks} {a} {f} {c} {wall} pair w e d p =
     let n : c.cells ≡ length (coarse_line t a) - 1 = sym (ends_cells pair.coarse_held) ∙ ap (λ (es : List ℕ). length es - 1) d in
     record {
       done = rw (coarse_cells_is t a, ← n, ← w, ← e, ← d) p;
       inside = λ m q h k. rw (fine_cells_is t a, ← e) (done_in pair (omega arith) p m q (rw (coarse_cells_is t a, ← n) at h) k);
     }
 
-hats_whole : {t : TwoLevels} {ns : List ℕ} {ws : List Float} {ks : List ℕ} → (length ns ≡ 24576) × (length ws ≡ 24576) × (length ks ≡ 192)
-    → ((a : ℕ) → a < 3 → AxisWhole t ns ws ks a) → Hats t ns ws ks
+hats_whole : {t : TwoLevels} {xs : List Hat} {ks : List ℕ} → (length xs ≡ 24576) × (length ks ≡ 192)
+    → ((a : ℕ) → a < 3 → AxisWhole t xs ks a) → Hats t xs ks
 unfolding hats_around
 hats_whole long each =
     record {
-      nodes_long = long.0;
-      weights_long = long.1;
-      counts_long = long.2;
+      hats_long = long.0;
+      counts_long = long.1;
       counts_few = λ a m h k. (each a h).done.few m k;
       hats_are = λ a m h k. (each a h).done.are m k;
       nodes_in = λ a m q h k o. (each a h).inside m q k o;
     }
 
 -- the hats of each axis, laid one axis behind another
-pub hats_three : {l : FullLattice} {fine coarse : Three} {wx wy wz : Bool} {ns ns₁ ns₂ ns₃ : List ℕ} {ws ws₁ ws₂ ws₃ : List Float} {ks ks₁ ks₂ ks₃ : List ℕ}
-    → PairedLines l fine coarse → (length ns ≡ 24576) × (length ws ≡ 24576) × (length ks ≡ 192)
+pub hats_three : {l : FullLattice} {fine coarse : Three} {wx wy wz : Bool} {xs xs₁ xs₂ xs₃ : List Hat} {ks ks₁ ks₂ ks₃ : List ℕ}
+    → PairedLines l fine coarse → (length xs ≡ 24576) × (length ks ≡ 192)
     → wx ≡ is_wall l.x → wy ≡ is_wall l.y → wz ≡ is_wall l.z
-    → AxisHats wx (ends_of fine.x) (ends_of coarse.x) 0 coarse.x.cells ns ws ks ns₁ ws₁ ks₁
-    → AxisHats wy (ends_of fine.y) (ends_of coarse.y) 1 coarse.y.cells ns₁ ws₁ ks₁ ns₂ ws₂ ks₂
-    → AxisHats wz (ends_of fine.z) (ends_of coarse.z) 2 coarse.z.cells ns₂ ws₂ ks₂ ns₃ ws₃ ks₃
-    → Hats (two_of l fine coarse) ns₃ ws₃ ks₃
-hats_three {l} {fine} {coarse} {wx} {wy} {wz} {ns₃ = ns₃} {ws₃ = ws₃} {ks₃ = ks₃} p long ex ey ez x y z =
+    → AxisHats wx (ends_of fine.x) (ends_of coarse.x) 0 coarse.x.cells xs ks xs₁ ks₁
+    → AxisHats wy (ends_of fine.y) (ends_of coarse.y) 1 coarse.y.cells xs₁ ks₁ xs₂ ks₂
+    → AxisHats wz (ends_of fine.z) (ends_of coarse.z) 2 coarse.z.cells xs₂ ks₂ xs₃ ks₃
+    → Hats (two_of l fine coarse) xs₃ ks₃
+hats_three {l} {fine} {coarse} {wx} {wy} {wz} {xs₃ = xs₃} {ks₃ = ks₃} p long ex ey ez x y z =
     hats_whole
     (axis_long z (axis_long y (axis_long x long)))
-    (low3 (AxisWhole (two_of l fine coarse) ns₃ ws₃ ks₃)
+    (low3 (AxisWhole (two_of l fine coarse) xs₃ ks₃)
     (axis_whole p.x_pair (ex ∙ wall 0 (edges_of_0 l)) (fines 0 (lines_in_0 fine)) (coarses 0 (lines_in_0 coarse))
     (axis_kept p.x_pair.coarse_held.most (omega arith) z (axis_kept p.x_pair.coarse_held.most (omega arith) y (done_of x))))
     (axis_whole p.y_pair (ey ∙ wall 1 (edges_of_1 l)) (fines 1 (lines_in_1 fine)) (coarses 1 (lines_in_1 coarse))

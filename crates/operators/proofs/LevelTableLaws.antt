@@ -77,6 +77,10 @@ module _ (ps ns : List ℕ) (q : ℕ) where
       rw (← e, length_tabulate (entry_at ps) n (2 * q))
       (gathered_agree n (λ k h. refl) (λ k h. ap (λ (m : ℕ). single m) (sym (tabulate_at (entry_at ps) n (2 * q) k 0 h))))
 
+-- the places of a slot stand in the list
+pub slot_room : {ps ns : List ℕ} {q : ℕ} → Entries ps ns → q < 384 → 2 * q + get_or ns q 0 ≤ length ps
+slot_room {q = q} e h = omega (arith, e.few q h, e.places_long)
+
 -- the slot of word e
 pub slot_word_no_lem : {w : ℕ} (ps ns : List ℕ) (e : ℕ) → w ≡ slot_word ps ns (128 * (e / 128) + (e % 128 + 64) % 128) → w ≡ slot_word_no ps ns e
 unfolding slot_word_no slot_no

@@ -2,6 +2,7 @@ pub mod RelationLaws
 pub mod PatternTheorem
 pub mod WordLaws
 pub mod WordPlaces
+pub mod CutLaws
 pub mod ColumnLaws
 pub mod ColumnMeaning
 pub mod ColumnWhole

@@ -13,10 +13,11 @@ use Rattle.numbers.specs.Complex.{one_number, conjugate}
 use Rattle.lattice.specs.declared.grid.Position.{Position}
 use Rattle.lattice.specs.declared.lattice.Edges.{Edges}
 use Rattle.lattice.specs.declared.lattice.Edges.TheVariants.{Pml, Bloch}
-use Rattle.lattice.specs.declared.neighbours.Arrival.TheVariants.{To}
+use Rattle.lattice.specs.Neighbours.{to_place}
 use Rattle.lattice.specs.Grid.{n_of, place_on, moved_to, with_component}
 use Rattle.lattice.specs.Lattice.{FullLattice, edges_of, is_wall}
 use Rattle.lattice.specs.Neighbours.{past_high, past_low, shifted, on_wall}
+use Rattle.lattice.proofs.GridLaws.{same_place}
 use Rattle.lattice.proofs.Equations.{on_wall_is, place_on_0, place_on_1, place_on_2, moved_to_0, moved_to_1, moved_to_2, with_component_is}
 use Rattle.lattice.proofs.NeighbourLaws.{shift_up, shift_high, shift_down, shift_low}
 use Rattle.operators.specs.Relation.{Rel, Cube, Times}
@@ -39,52 +40,52 @@ unfolding follows
 follows_round n i j e h = or_right (eqb j (i + 1) && ltb (i + 1) n) (both_and (eq-eqb (i + 1) n e) (eq-eqb j 0 h))
 
 module _ (e : Edges) (n m k : ℕ) (mine : m < n) where
-  up_follows : (w : C64) → shifted e n m true ≡ To k w → follows n (not (is_wall e)) m k ≡ true
+  up_follows : (w : C64) → shifted e n m true ≡ to_place k w → follows n (not (is_wall e)) m k ≡ true
   up_follows w q = go (dec_lt (m + 1) n)
     where
-      past : (e : Edges) → n ≤ m + 1 → past_high e ≡ To k w → follows n (not (is_wall e)) m k ≡ true
+      past : (e : Edges) → n ≤ m + 1 → past_high e ≡ to_place k w → follows n (not (is_wall e)) m k ≡ true
       past Pml f q = let z : ◌≡◌ {A = ℕ} 0 1 = cc in absurd (omega arith)
-      past (Bloch p) f q = let z : 0 ≡ k = cc in follows_round n m k (omega arith) (sym z)
+      past (Bloch p) f q = let z : 0 ≡ k = same_place q in follows_round n m k (omega arith) (sym z)
 
       go : Dec (m + 1 < n) → follows n (not (is_wall e)) m k ≡ true
-      go (yes f) = let z : m + 1 ≡ k = cc (shift_up e n m true one_number refl f refl) in follows_on n (not (is_wall e)) m k (sym z) f
+      go (yes f) = let z : m + 1 ≡ k = same_place (shift_up e n m true one_number refl f refl ∙ q) in follows_on n (not (is_wall e)) m k (sym z) f
       go (no f) = past e (omega arith) (shift_high e n m true refl (omega arith) ∙ q)
 
-  down_follows : (w : C64) → shifted e n m false ≡ To k w → follows n (not (is_wall e)) k m ≡ true
+  down_follows : (w : C64) → shifted e n m false ≡ to_place k w → follows n (not (is_wall e)) k m ≡ true
   down_follows w q = go (ℕ_discrete m 0)
     where
-      past : (e : Edges) → m ≡ 0 → past_low e n ≡ To k w → follows n (not (is_wall e)) k m ≡ true
+      past : (e : Edges) → m ≡ 0 → past_low e n ≡ to_place k w → follows n (not (is_wall e)) k m ≡ true
       past Pml f q = let z : ◌≡◌ {A = ℕ} 0 1 = cc in absurd (omega arith)
-      past (Bloch p) f q = let z : n - 1 ≡ k = cc in follows_round n k m (omega arith) f
+      past (Bloch p) f q = let z : n - 1 ≡ k = same_place q in follows_round n k m (omega arith) f
 
       go : Dec (m ≡ 0) → follows n (not (is_wall e)) k m ≡ true
       go (yes f) = past e f (shift_low e n m false refl f ∙ q)
-      go (no f) = let z : m - 1 ≡ k = cc (shift_down e n m false one_number refl f refl) in follows_on n (not (is_wall e)) k m (omega arith) (omega arith)
+      go (no f) = let z : m - 1 ≡ k = same_place (shift_down e n m false one_number refl f refl ∙ q) in follows_on n (not (is_wall e)) k m (omega arith) (omega arith)
 
-  follows_up : follows n (not (is_wall e)) m k ≡ true → (w : C64) × (shifted e n m true ≡ To k w)
+  follows_up : follows n (not (is_wall e)) m k ≡ true → (w : C64) × (shifted e n m true ≡ to_place k w)
   follows_up h = ⊎_elim
-      (λ t. (one_number, sym (shift_up e n m true one_number refl t.1 refl) ∙ ap (λ i. To i one_number) (sym t.0)))
+      (λ t. (one_number, sym (shift_up e n m true one_number refl t.1 refl) ∙ ap (λ i. to_place i one_number) (sym t.0)))
       (λ t. go e t.0 (sym (shift_high e n m true refl (omega (arith, t.1)))) t.2)
       (next_of n (not (is_wall e)) m k h).how
     where
-      go : (d : Edges) → not (is_wall d) ≡ true → shifted e n m true ≡ past_high d → k ≡ 0 → (w : C64) × (shifted e n m true ≡ To k w)
+      go : (d : Edges) → not (is_wall d) ≡ true → shifted e n m true ≡ past_high d → k ≡ 0 → (w : C64) × (shifted e n m true ≡ to_place k w)
       go Pml b q z = absurd (false≢true b)
-      go (Bloch p) b q z = (p, q ∙ ap (λ i. To i p) (sym z))
+      go (Bloch p) b q z = (p, q ∙ ap (λ i. to_place i p) (sym z))
 
-  follows_down : follows n (not (is_wall e)) k m ≡ true → (w : C64) × (shifted e n m false ≡ To k w)
+  follows_down : follows n (not (is_wall e)) k m ≡ true → (w : C64) × (shifted e n m false ≡ to_place k w)
   follows_down h = ⊎_elim
       (λ t.
       let z : m - 1 ≡ k = omega (arith, t.0) in
-      (one_number, sym (shift_down e n m false one_number refl (omega (arith, t.0)) refl) ∙ ap (λ i. To i one_number) z))
+      (one_number, sym (shift_down e n m false one_number refl (omega (arith, t.0)) refl) ∙ ap (λ i. to_place i one_number) z))
       (λ t. go e t.0 (sym (shift_low e n m false refl t.2)) t.1)
       (next_of n (not (is_wall e)) k m h).how
     where
-      go : (d : Edges) → not (is_wall d) ≡ true → shifted e n m false ≡ past_low d n → k + 1 ≡ n → (w : C64) × (shifted e n m false ≡ To k w)
+      go : (d : Edges) → not (is_wall d) ≡ true → shifted e n m false ≡ past_low d n → k + 1 ≡ n → (w : C64) × (shifted e n m false ≡ to_place k w)
       go Pml b q z = absurd (false≢true b)
       go (Bloch p) b q z =
           let v : C64 = conjugate p in
           let y : n - 1 ≡ k = omega arith in
-          (v, q ∙ ap (λ i. To i v) y)
+          (v, q ∙ ap (λ i. to_place i v) y)
 
 -- to the same place or to the next; or to the one before
 abbrev pub step_on : Bool → ℕ → Bool → Rel
@@ -96,12 +97,12 @@ step_none true n bloch m = ahead_same n bloch m m refl
 step_none false n bloch m = back_same n bloch m m refl
 
 module _ (l : FullLattice) (a m k : ℕ) (mine : m < n_of l.grid a) where
-  pub shift_step : (up : Bool) (w : C64) → shifted (edges_of l a) (n_of l.grid a) m up ≡ To k w → step_on up (n_of l.grid a) (is_bloch l a) m k ≡ true
+  pub shift_step : (up : Bool) (w : C64) → shifted (edges_of l a) (n_of l.grid a) m up ≡ to_place k w → step_on up (n_of l.grid a) (is_bloch l a) m k ≡ true
   unfolding is_bloch
   shift_step true w q = ahead_next (n_of l.grid a) (not (is_wall (edges_of l a))) m k (up_follows (edges_of l a) (n_of l.grid a) m k mine w q)
   shift_step false w q = back_next (n_of l.grid a) (not (is_wall (edges_of l a))) m k (down_follows (edges_of l a) (n_of l.grid a) m k mine w q)
 
-  pub step_shift : (up : Bool) → step_on up (n_of l.grid a) (is_bloch l a) m k ≡ true → (m ≡ k) ⊎ ((w : C64) × (shifted (edges_of l a) (n_of l.grid a) m up ≡ To k w))
+  pub step_shift : (up : Bool) → step_on up (n_of l.grid a) (is_bloch l a) m k ≡ true → (m ≡ k) ⊎ ((w : C64) × (shifted (edges_of l a) (n_of l.grid a) m up ≡ to_place k w))
   unfolding is_bloch
   step_shift true h = ⊎_elim (λ e. inl e) (λ e. inr (follows_up (edges_of l a) (n_of l.grid a) m k mine e)) (ahead_cases (n_of l.grid a) (not (is_wall (edges_of l a))) m k h)
   step_shift false h = ⊎_elim (λ e. inl e) (λ e. inr (follows_down (edges_of l a) (n_of l.grid a) m k mine e)) (back_cases (n_of l.grid a) (not (is_wall (edges_of l a))) m k h)

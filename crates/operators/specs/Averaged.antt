@@ -1,15 +1,15 @@
 -- The permittivity of a rediscretized level (docs/SPECIFICATION.md, 10): a mean over lines of fine edges, each line
 -- entering by its harmonic mean and by how near it lies. Places are whole half-steps, never maps.
 -- Assumes nothing.
-use Rattle.std.specs.Prelude.{ℕ, zero, suc, ◌+◌, ◌-◌, ◌*◌, ◌%◌, ◌<◌, ◌≤◌, ◌^◌, min, ◌≡◌, Bool, ◌&&◌, cond, ◌⊎◌, List, [], ◌∷◌, ◌++◌, eqb, ltb, length, get_or, set, Float}
+use Rattle.std.specs.Prelude.{ℕ, zero, suc, ◌+◌, ◌-◌, ◌*◌, ◌%◌, ◌<◌, ◌≤◌, min, ◌≡◌, Bool, ◌&&◌, cond, ◌⊎◌, List, [], ◌∷◌, ◌++◌, eqb, ltb, length, get_or, set, Float}
 use Rattle.std.specs.Float.{nan}
 use Rattle.numbers.specs.declared.C64.{C64}
 use Rattle.numbers.specs.Complex.{add_f, sub_f, mul_f, div_f, zero_f, one_f, zero_number, sum, real_over, over_real}
 use Rattle.lattice.specs.declared.grid.Grid3d.{Grid3d}
 use Rattle.lattice.specs.declared.grid.Position.{Position}
-use Rattle.lattice.specs.Grid.{n_of, next_axis, last_axis, place_on, moved_to, at_of, Inside}
+use Rattle.lattice.specs.Grid.{n_of, next_axis, last_axis, place_on, moved_to, at_of, Limits, Inside}
 use Rattle.lattice.specs.Lattice.{FullLattice, edges_of, is_wall}
-use Rattle.numbers.specs.Lists.{tabulate, Rises, summed, each, laid, laid_by}
+use Rattle.numbers.specs.Lists.{tabulate, Rises, summed, each, Laid}
 use Rattle.lattice.specs.declared.levels.Three.{Three}
 use Rattle.lattice.specs.declared.line.Line.{Line}
 use Rattle.lattice.specs.Line.{ends_of, nodes_of, Held}
@@ -17,6 +17,7 @@ use Rattle.weights.specs.TwoLevels.{TwoLevels, fine_line, coarse_line, fine_cell
 use Rattle.weights.specs.Interpolate.{whole}
 use Rattle.weights.specs.Tables.{cell_first, cell_last, Paired, node_count}
 use Rattle.weights.specs.CoarseEps.{edges_along, inverted}
+use Rattle.operators.specs.declared.averaged.Cell.{Cell}
 use Rattle.operators.specs.declared.averaged.Counts.{Counts}
 use Rattle.operators.specs.declared.averaged.Hat.{Hat}
 use Rattle.operators.specs.declared.averaged.Weighed.{Weighed}
@@ -148,8 +149,9 @@ unfoldable pub averaged_reads : TwoLevels → ℕ → List ℕ
 averaged_reads t r =
     each (hat_lines t (at_of (coarse_grid t) r)) (hats_on t (at_of (coarse_grid t) r) (next_axis (at_of (coarse_grid t) r).component))
 
--- ---- hats in lists
+-- ---- hats in a list
 
+-- the nodes and the weights of some hats
 unfoldable pub hat_nodes : List Hat → List ℕ
 hat_nodes [] = []
 hat_nodes (h ∷ hs) = h.node ∷ hat_nodes hs
@@ -158,41 +160,40 @@ unfoldable pub hat_weights : List Hat → List Float
 hat_weights [] = []
 hat_weights (h ∷ hs) = h.weight ∷ hat_weights hs
 
--- hats have been laid over two lists from place k on, and r is the place behind them
-pub record HatsLaid (ns : List ℕ) (ws : List Float) (k : ℕ) (hs : List Hat) (ns' : List ℕ) (ws' : List Float) (r : ℕ) : Type 0 where
-  pub nodes : ns' ≡ laid ns k (hat_nodes hs)
-  pub weights : ws' ≡ laid_by set ws k (hat_weights hs)
-  pub next : r ≡ k + length hs
+-- hats have been laid over a list from place k on, and r is the place behind them
+abbrev pub HatsLaid : List Hat → ℕ → List Hat → List Hat → ℕ → Type 0
+HatsLaid = Laid set
 
-unfoldable pub hat_at : List ℕ → List Float → ℕ → Hat
-hat_at ns ws k = record { node = get_or ns k 0; weight = get_or ws k nan }
+-- what stands at a place; past the list's end no hat
+abbrev pub no_hat : Hat
+no_hat = record { node = 0; weight = nan }
 
--- the n hats that stand in two lists from place k on
-unfoldable pub hats_in : List ℕ → List Float → ℕ → ℕ → List Hat
-hats_in ns ws k n = tabulate (hat_at ns ws) n k
+abbrev pub hat_at : List Hat → ℕ → Hat
+hat_at xs k = get_or xs k no_hat
+
+-- the n hats that stand in a list from place k on
+unfoldable pub hats_in : List Hat → ℕ → ℕ → List Hat
+hats_in xs k n = tabulate (hat_at xs) n k
 
 -- the hats around node m of axis a have 128 places from 128 (64 a + m) on; cs has their counts
-pub record Hats (t : TwoLevels) (ns : List ℕ) (ws : List Float) (cs : List ℕ) : Type 0 where
-  pub nodes_long : length ns ≡ hat_places
-  pub weights_long : length ws ≡ hat_places
+pub record Hats (t : TwoLevels) (xs : List Hat) (cs : List ℕ) : Type 0 where
+  pub hats_long : length xs ≡ hat_places
   pub counts_long : length cs ≡ hat_counts
   pub counts_few : (a m : ℕ) → a < 3 → m < coarse_cells t a → get_or cs (64 * a + m) 0 ≤ 127
   pub hats_are : (a m : ℕ) → a < 3 → m < coarse_cells t a
-      → hats_in ns ws (128 * (64 * a + m)) (get_or cs (64 * a + m) 0) ≡ hats_around t a m
+      → hats_in xs (128 * (64 * a + m)) (get_or cs (64 * a + m) 0) ≡ hats_around t a m
   pub nodes_in : (a m q : ℕ) → a < 3 → m < coarse_cells t a → q < get_or cs (64 * a + m) 0
-      → get_or ns (128 * (64 * a + m) + q) 0 < fine_cells t a
+      → (hat_at xs (128 * (64 * a + m) + q)).node < fine_cells t a
 
 -- those of the first n nodes of one axis have been laid, and the other axes' are as they were
-pub record AxisHats (wall : Bool) (es cs : List ℕ) (a n : ℕ) (ns : List ℕ) (ws : List Float) (ks : List ℕ) (ns' : List ℕ) (ws' : List Float) (ks' : List ℕ) : Type 0 where
-  pub nodes_long : length ns' ≡ length ns
-  pub weights_long : length ws' ≡ length ws
+pub record AxisHats (wall : Bool) (es cs : List ℕ) (a n : ℕ) (xs : List Hat) (ks : List ℕ) (xs' : List Hat) (ks' : List ℕ) : Type 0 where
+  pub hats_long : length xs' ≡ length xs
   pub counts_long : length ks' ≡ length ks
   pub few : (m : ℕ) → m < n → get_or ks' (64 * a + m) 0 ≤ 127
-  pub hats_are : (m : ℕ) → m < n → hats_in ns' ws' (128 * (64 * a + m)) (get_or ks' (64 * a + m) 0) ≡ around wall es cs m
-  pub nodes_in : (m q : ℕ) → m < n → q < get_or ks' (64 * a + m) 0 → get_or ns' (128 * (64 * a + m) + q) 0 < length es - 1
+  pub hats_are : (m : ℕ) → m < n → hats_in xs' (128 * (64 * a + m)) (get_or ks' (64 * a + m) 0) ≡ around wall es cs m
+  pub nodes_in : (m q : ℕ) → m < n → q < get_or ks' (64 * a + m) 0 → (hat_at xs' (128 * (64 * a + m) + q)).node < length es - 1
   pub others : (b : ℕ) → b < 64 * a ⊎ 64 * a + n ≤ b → get_or ks' b 0 ≡ get_or ks b 0
-  pub others_node : (b q : ℕ) → b < 64 * a ⊎ 64 * a + n ≤ b → q < 128 → get_or ns' (128 * b + q) 0 ≡ get_or ns (128 * b + q) 0
-  pub others_weight : (b q : ℕ) → b < 64 * a ⊎ 64 * a + n ≤ b → q < 128 → get_or ws' (128 * b + q) nan ≡ get_or ws (128 * b + q) nan
+  pub others_hat : (b q : ℕ) → b < 64 * a ⊎ 64 * a + n ≤ b → q < 128 → hat_at xs' (128 * b + q) ≡ hat_at xs (128 * b + q)
 
 -- a fine line and a coarse one whose nodes are nodes of it
 pub record LinePair (f c : Line) : Type 0 where
@@ -216,41 +217,58 @@ pub record PairedLines (l : FullLattice) (fine coarse : Three) : Type 0 where
   pub y_pair : LinePair fine.y coarse.y
   pub z_pair : LinePair fine.z coarse.z
 
--- the n hats from place j on stand in the lists, their nodes below b
-pub record HatsFit (b j n : ℕ) (ns : List ℕ) (ws : List Float) : Type 0 where
-  pub nodes_room : j + n ≤ length ns
-  pub weights_room : j + n ≤ length ws
-  pub low : j + n ≤ 2 ^ 32
-  pub nodes_in : (q : ℕ) → q < n → get_or ns (j + q) 0 < b
+-- a coarse edge's cell on the fine grid, from the nodes nn, 65 for each axis; and what such a cell holds
+unfoldable pub cell_in : Grid3d → List ℕ → Position → Cell
+cell_in g nn p = record { grid = g; p = p; first = cell_first nn p; last = cell_last nn p }
+
+pub record CellReady (g : Grid3d) (p : Position) (nn : List ℕ) : Type 0 where
+  pub limits : Limits g
+  pub c_in : p.component < 3
+  pub place_in : place_on p p.component < 64
+  pub nodes_long : length nn ≡ node_count
+  pub rises : cell_first nn p ≤ cell_last nn p
+  pub inside : cell_last nn p ≤ n_of g p.component
+
+pub record CellFits (c : Cell) : Type 0 where
+  pub limits : Limits c.grid
+  pub c_in : c.p.component < 3
+  pub rises : c.first ≤ c.last
+  pub inside : c.last ≤ n_of c.grid c.p.component
+
+-- the nodes of some hats are below b
+pub record NodesBelow (b : ℕ) (hs : List Hat) : Type 0 where
+  pub below : (q : ℕ) → q < length hs → (hat_at hs q).node < b
+
+-- the n hats from place j on stand in the list, their nodes below b
+pub record HatsFit (b j n : ℕ) (xs : List Hat) : Type 0 where
+  pub room : j + n ≤ length xs
+  pub nodes_in : (q : ℕ) → q < n → (hat_at xs (j + q)).node < b
 
 -- the hats around the node of p on the axes across its component: those of the next axis from place 0 on, those of the last from place 128 on
-pub record HatsAcross (t : TwoLevels) (p : Position) (ns : List ℕ) (ws : List Float) (k : Counts) : Type 0 where
-  pub next_are : hats_in ns ws 0 k.next ≡ hats_on t p (next_axis p.component)
-  pub last_are : hats_in ns ws 128 k.last ≡ hats_on t p (last_axis p.component)
-  pub next_fit : HatsFit (n_of (fine_grid t) (next_axis p.component)) 0 k.next ns ws
-  pub last_fit : HatsFit (n_of (fine_grid t) (last_axis p.component)) 128 k.last ns ws
+pub record HatsAcross (t : TwoLevels) (p : Position) (xs : List Hat) (k : Counts) : Type 0 where
+  pub next_are : hats_in xs 0 k.next ≡ hats_on t p (next_axis p.component)
+  pub last_are : hats_in xs 128 k.last ≡ hats_on t p (last_axis p.component)
+  pub next_fit : HatsFit (n_of (fine_grid t) (next_axis p.component)) 0 k.next xs
+  pub last_fit : HatsFit (n_of (fine_grid t) (last_axis p.component)) 128 k.last xs
 
 -- the mean from the lists: the nodes nn, 65 for each axis, and the hats
-unfoldable pub hats_by : List ℕ → List Float → List ℕ → Position → ℕ → List Hat
-hats_by ns ws cs p a = hats_in ns ws (128 * (64 * a + place_on p a)) (get_or cs (64 * a + place_on p a) 0)
+unfoldable pub hats_by : List Hat → List ℕ → Position → ℕ → List Hat
+hats_by xs cs p a = hats_in xs (128 * (64 * a + place_on p a)) (get_or cs (64 * a + place_on p a) 0)
 
-unfoldable pub averaged_in : Grid3d → List ℕ → List ℕ → List Float → List ℕ → (ℕ → C64) → Position → C64
-averaged_in g nn ns ws cs f p =
-    mean_of (weigh_all g f p (cell_first nn p) (cell_last nn p - cell_first nn p) (hats_by ns ws cs p (last_axis p.component)) nothing
-    (hats_by ns ws cs p (next_axis p.component)))
+unfoldable pub averaged_in : Grid3d → List ℕ → List Hat → List ℕ → (ℕ → C64) → Position → C64
+averaged_in g nn xs cs f p =
+    mean_of (weigh_all g f p (cell_first nn p) (cell_last nn p - cell_first nn p) (hats_by xs cs p (last_axis p.component)) nothing
+    (hats_by xs cs p (next_axis p.component)))
 
-unfoldable pub averaged_no : Grid3d → Grid3d → List ℕ → List ℕ → List Float → List ℕ → (ℕ → C64) → ℕ → C64
-averaged_no gf gc nn ns ws cs f r = averaged_in gf nn ns ws cs f (at_of gc r)
+unfoldable pub averaged_no : Grid3d → Grid3d → List ℕ → List Hat → List ℕ → (ℕ → C64) → ℕ → C64
+averaged_no gf gc nn xs cs f r = averaged_in gf nn xs cs f (at_of gc r)
 
 -- all that the mean of one edge is worked out from is there
-pub record AverageReady (g : Grid3d) (p : Position) (nn ns : List ℕ) (ws : List Float) (cs : List ℕ) : Type 0 where
-  pub c_in : p.component < 3
+pub record AverageReady (g : Grid3d) (p : Position) (nn : List ℕ) (xs : List Hat) (cs : List ℕ) : Type 0 where
+  pub cell : CellReady g p nn
   pub places : (a : ℕ) → place_on p a < 64
-  pub nodes_long : length nn ≡ node_count
   pub counts_long : length cs ≡ hat_counts
-  pub cell_rises : cell_first nn p ≤ cell_last nn p
-  pub cell_in : cell_last nn p ≤ n_of g p.component
-  pub hats_fit : (a : ℕ) → a < 3 → HatsFit (n_of g a) (128 * (64 * a + place_on p a)) (get_or cs (64 * a + place_on p a) 0) ns ws
+  pub hats_fit : (a : ℕ) → a < 3 → HatsFit (n_of g a) (128 * (64 * a + place_on p a)) (get_or cs (64 * a + place_on p a) 0) xs
 
-pub record AveragesReady (gf gc : Grid3d) (nn ns : List ℕ) (ws : List Float) (cs : List ℕ) : Type 0 where
-  pub each_ready : (p : Position) → Inside gc p → AverageReady gf p nn ns ws cs
+pub record AveragesReady (gf gc : Grid3d) (nn : List ℕ) (xs : List Hat) (cs : List ℕ) : Type 0 where
+  pub each_ready : (p : Position) → Inside gc p → AverageReady gf p nn xs cs

@@ -10,6 +10,7 @@ use Rattle.numbers.specs.Lists.{each, tabulate, rows, laid_numbers, all_finite, 
 use Rattle.lattice.specs.Grid.{unknowns_of, Limits}
 use Rattle.lattice.specs.Lattice.{FullLattice}
 use Rattle.numbers.specs.declared.terms.Part.{Part}
+use Rattle.operators.specs.declared.galerkin.Rows.{Rows}
 use Rattle.operators.specs.declared.galerkin.FineRows.{FineRows}
 use Rattle.operators.specs.declared.galerkin.FineRows.TheVariants.{Computed, Stored as StoredFrom}
 use Rattle.operators.specs.Stencil.{stencil_row}
@@ -56,6 +57,9 @@ forward_rows_read A R c = each (columns_at A) (fine_rows_read R c)
 -- the rows that stand in lists from a part on
 abbrev pub rows_in : Part → List ℕ → List ℕ → List Float → ℕ → List Term
 rows_in p starts cs xs = stored_row starts p.s cs xs p.k
+
+abbrev pub rows_of : Rows → ℕ → List Term
+rows_of p = rows_in p.part p.starts.now p.columns.now p.values.now
 
 -- ---- what a row is worked out from
 

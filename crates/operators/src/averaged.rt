@@ -1,7 +1,7 @@
 // The permittivities of a rediscretized level from those of the level before.
 
 ghost use Rattle.std.specs.Prelude.{◌≡◌, [], ◌∷◌, ℕ, ◌+◌, ◌-◌, ◌*◌, ◌<◌, ◌≤◌, ◌^◌, length, get_or};
-ghost use Rattle.lattice.specs.Grid.{axis3, n_of, next_axis, last_axis, moved_to, unknowns_of, Limits, Inside};
+ghost use Rattle.lattice.specs.Grid.{axis3, n_of, next_axis, last_axis, place_on, moved_to, unknowns_of, Limits, Inside};
 ghost use Rattle.lattice.specs.Lattice.{full_lattice};
 ghost use Rattle.numbers.specs.Complex.{finite};
 ghost use Rattle.numbers.specs.Places.{set_number};
@@ -9,7 +9,7 @@ ghost use Rattle.numbers.specs.Lists.{tabulate, each, laid_numbers, all_finite, 
 ghost use Rattle.lattice.specs.Line.{ends_of, Held};
 ghost use Rattle.weights.specs.TwoLevels.{two_of, coarse_cells, fine_grid, coarse_grid};
 ghost use Rattle.weights.specs.Tables.{node_no, ChainRoom, node_count};
-ghost use Rattle.operators.specs.Averaged.{hat_weight, wrapped_place, walk, hat_above, lower_hats, around, hats_around, line_edges, hat_edges, weigh_line, weigh_lines, weigh_all, nothing, averaged_eps, averaged_reads, hat_at, hats_in, HatsLaid, NodesFrom, AxisHats, Hats, HatsAcross, LinePair, PairedLines, HatsFit, averaged_in, averaged_no, AverageReady, AveragesReady, hat_counts, hat_places};
+ghost use Rattle.operators.specs.Averaged.{hat_weight, wrapped_place, walk, hat_above, lower_hats, around, hats_around, line_edges, hat_edges, weigh_line, weigh_all, nothing, mean_of, averaged_eps, averaged_reads, hats_by, HatsLaid, NodesFrom, AxisHats, Hats, HatsAcross, LinePair, PairedLines, NodesBelow, CellReady, CellFits, cell_in, averaged_in, averaged_no, AverageReady, AveragesReady, hat_counts, hat_places};
 
 use lattice::grid::{Grid3d, Position};
 use lattice::lattice::Lattice;
@@ -31,11 +31,26 @@ pub struct Hat {
     pub weight: f64,
 }
 
+// What stands in a list of hats before any is laid.
+const NO_HAT: Hat = Hat {
+    node: 0,
+    weight: 0.0,
+};
+
 // A sum of weighted means, and the sum of the weights.
 #[derive(Clone, Copy)]
 pub struct Weighed {
     pub total: C64,
     pub weight: f64,
+}
+
+// A coarse edge's cell on the fine grid: the edge's position, and the places along its component from `first` up to `last`.
+#[derive(Clone, Copy)]
+pub struct Cell {
+    pub grid: Grid3d,
+    pub p: Position,
+    pub first: usize,
+    pub last: usize,
 }
 
 // How many hats stand around an edge's node on the axes across its component: the next and the last.
@@ -67,16 +82,13 @@ fn wrapped_place(l: Line, q: usize) -> usize
 
 // ---- the nodes around a coarse node
 
-// One hat, at place k of two lists. The place behind it.
-fn push_hat(h: Hat, nodes: &mut [usize], weights: &mut [f64], k: usize) -> usize
+// One hat, at place k of a list; past the list's end it is left out. The place behind it.
+fn push_hat(h: Hat, hats: &mut [Hat], k: usize) -> usize
     requires { k < 2 ^ 32 }
-    ensures { HatsLaid nodes.old weights.old k (h ∷ []) nodes.new weights.new result }
+    ensures { HatsLaid hats.old k (h ∷ []) hats.new result }
 {
-    if k < nodes.len() {
-        nodes[k] = h.node;
-    }
-    if k < weights.len() {
-        weights[k] = h.weight;
+    if k < hats.len() {
+        hats[k] = h;
     }
     k + 1
 }
@@ -87,14 +99,13 @@ fn walk_lower(
     at: usize,
     width: usize,
     first: usize,
-    nodes: &mut [usize],
-    weights: &mut [f64],
+    hats: &mut [Hat],
     from: usize,
 ) -> usize
     requires held { Held f }
     requires le_first { (1 ≤ first) × (first ≤ f.cells) × (at ≤ get_or f.ends f.cells 0) × (width ≤ 256) }
     requires from_bound { from < 2 ^ 30 }
-    ensures { HatsLaid nodes.old weights.old from (walk (ends_of f) at width f.cells first) nodes.new weights.new result }
+    ensures { HatsLaid hats.old from (walk (ends_of f) at width f.cells first) hats.new result }
 {
     let n = f.cells;
     let mut q = first;
@@ -108,7 +119,7 @@ fn walk_lower(
             node: q % n,
             weight: hat_weight(at - place, width),
         };
-        k = push_hat(h, nodes, weights, k);
+        k = push_hat(h, hats, k);
         q += 1;
     }
     k
@@ -121,14 +132,13 @@ fn push_upper(
     width: usize,
     first: usize,
     last: usize,
-    nodes: &mut [usize],
-    weights: &mut [f64],
+    hats: &mut [Hat],
     from: usize,
 ) -> usize
     requires held { Held f }
     requires last_le_cells { (last ≤ f.cells) × (width ≤ 256) × (from < 2 ^ 30) }
     requires by_index { (q : ℕ) → first ≤ q → q < last → at ≤ get_or f.ends q 0 }
-    ensures { HatsLaid nodes.old weights.old from (tabulate (hat_above (ends_of f) at width) (last - first) first) nodes.new weights.new result }
+    ensures { HatsLaid hats.old from (tabulate (hat_above (ends_of f) at width) (last - first) first) hats.new result }
 {
     let mut k = from;
     for q in first..last {
@@ -136,7 +146,7 @@ fn push_upper(
             node: q,
             weight: hat_weight(f.ends[q] - at, width),
         };
-        k = push_hat(h, nodes, weights, k);
+        k = push_hat(h, hats, k);
     }
     k
 }
@@ -149,14 +159,13 @@ fn push_lower(
     o: usize,
     wall: bool,
     m: usize,
-    nodes: &mut [usize],
-    weights: &mut [f64],
+    hats: &mut [Hat],
     from: usize,
 ) -> usize
     requires line_pair { LinePair f c }
     requires nodes_from { NodesFrom (ends_of f) (ends_of c) c.cells nn.now o }
     requires m_lt_cells { (m < c.cells) × (from < 2 ^ 30) }
-    ensures { HatsLaid nodes.old weights.old from (lower_hats wall (ends_of f) (ends_of c) m) nodes.new weights.new result }
+    ensures { HatsLaid hats.old from (lower_hats wall (ends_of f) (ends_of c) m) hats.new result }
 {
     let n = c.cells;
     if m == 0 {
@@ -164,26 +173,10 @@ fn push_lower(
             return from;
         }
         let at = c.ends[n];
-        return walk_lower(
-            f,
-            at,
-            at - c.ends[n - 1],
-            nn[o + n - 1] + 1,
-            nodes,
-            weights,
-            from,
-        );
+        return walk_lower(f, at, at - c.ends[n - 1], nn[o + n - 1] + 1, hats, from);
     }
     let at = c.ends[m];
-    walk_lower(
-        f,
-        at,
-        at - c.ends[m - 1],
-        nn[o + m - 1] + 1,
-        nodes,
-        weights,
-        from,
-    )
+    walk_lower(f, at, at - c.ends[m - 1], nn[o + m - 1] + 1, hats, from)
 }
 
 // The nodes around coarse node m, each with its weight, at most 127.
@@ -194,21 +187,20 @@ fn push_around(
     o: usize,
     wall: bool,
     m: usize,
-    nodes: &mut [usize],
-    weights: &mut [f64],
+    hats: &mut [Hat],
     from: usize,
 ) -> usize
     requires line_pair { LinePair f c }
     requires nodes_from { NodesFrom (ends_of f) (ends_of c) c.cells nn.now o }
     requires m_lt_cells { (m < c.cells) × (from < 2 ^ 20) }
-    ensures { HatsLaid nodes.old weights.old from (around wall (ends_of f) (ends_of c) m) nodes.new weights.new result }
+    ensures { HatsLaid hats.old from (around wall (ends_of f) (ends_of c) m) hats.new result }
 {
-    let k = push_lower(f, c, nn, o, wall, m, nodes, weights, from);
+    let k = push_lower(f, c, nn, o, wall, m, hats, from);
     let own = Hat {
         node: nn[o + m],
         weight: 1.0,
     };
-    let k1 = push_hat(own, nodes, weights, k);
+    let k1 = push_hat(own, hats, k);
     let at = c.ends[m];
     push_upper(
         f,
@@ -216,49 +208,31 @@ fn push_around(
         c.ends[m + 1] - at,
         nn[o + m] + 1,
         nn[o + m + 1],
-        nodes,
-        weights,
+        hats,
         k1,
     )
 }
 
 // Those of all nodes of an axis, 128 places for each.
-fn axis_hats(
-    f: Line,
-    c: Line,
-    wall: bool,
-    axis: usize,
-    nodes: &mut [usize],
-    weights: &mut [f64],
-    counts: &mut [usize],
-)
+fn axis_hats(f: Line, c: Line, wall: bool, axis: usize, hats: &mut [Hat], counts: &mut [usize])
     requires line_pair { LinePair f c }
     requires axis_bound { axis < 3 }
-    requires nodes_len { (length nodes.old ≡ hat_places) × (length weights.old ≡ hat_places) × (length counts.old ≡ hat_counts) }
-    ensures { AxisHats wall (ends_of f) (ends_of c) axis c.cells nodes.old weights.old counts.old nodes.new
-        weights.new counts.new }
+    requires hats_len { (length hats.old ≡ hat_places) × (length counts.old ≡ hat_counts) }
+    ensures { AxisHats wall (ends_of f) (ends_of c) axis c.cells hats.old counts.old hats.new counts.new }
 {
     let nn = line::nodes_of(f, c);
     let n = c.cells;
     for m in 0..n {
         let b = 64 * axis + m;
-        counts[b] = push_around(f, c, &nn, 0, wall, m, nodes, weights, 128 * b) - 128 * b;
+        counts[b] = push_around(f, c, &nn, 0, wall, m, hats, 128 * b) - 128 * b;
     }
 }
 
 // Those of two levels.
-fn hats(
-    l: Lattice,
-    st: &[f64],
-    fine: Three,
-    coarse: Three,
-    nodes: &mut [usize],
-    weights: &mut [f64],
-    counts: &mut [usize],
-)
+fn hats(l: Lattice, st: &[f64], fine: Three, coarse: Three, hats: &mut [Hat], counts: &mut [usize])
     requires paired_lines { PairedLines (full_lattice l st.now) fine coarse }
-    requires nodes_len { (length nodes.old ≡ hat_places) × (length weights.old ≡ hat_places) × (length counts.old ≡ hat_counts) }
-    ensures { Hats (two_of (full_lattice l st.now) fine coarse) nodes.new weights.new counts.new }
+    requires hats_len { (length hats.old ≡ hat_places) × (length counts.old ≡ hat_counts) }
+    ensures { Hats (two_of (full_lattice l st.now) fine coarse) hats.new counts.new }
 {
     let x = l.x;
     let y = l.y;
@@ -266,9 +240,9 @@ fn hats(
     let wx = lattice::lattice::is_wall(x);
     let wy = lattice::lattice::is_wall(y);
     let wz = lattice::lattice::is_wall(z);
-    axis_hats(fine.x, coarse.x, wx, 0, nodes, weights, counts);
-    axis_hats(fine.y, coarse.y, wy, 1, nodes, weights, counts);
-    axis_hats(fine.z, coarse.z, wz, 2, nodes, weights, counts);
+    axis_hats(fine.x, coarse.x, wx, 0, hats, counts);
+    axis_hats(fine.y, coarse.y, wy, 1, hats, counts);
+    axis_hats(fine.z, coarse.z, wz, 2, hats, counts);
 }
 
 // ---- the mean
@@ -282,139 +256,85 @@ fn through(p: Position, h: Hat, k: Hat) -> Position
     grid::moved_to(grid::moved_to(p, b, h.node), c, k.node)
 }
 
-// One line of fine edges more, from place `first` up to `last` along the component of p, through the nodes of two hats.
-fn weigh_line(
-    gf: Grid3d,
-    eps: &[f64],
-    from: usize,
-    p: Position,
-    first: usize,
-    last: usize,
-    h: Hat,
-    s: Weighed,
-    k: Hat,
-) -> Weighed
-    requires limits { Limits gf }
-    requires from_bound { (from ≤ 2 ^ 32) × (2 * (from + unknowns_of gf) ≤ length eps.now) }
-    requires component_bound { (p.component < 3) × (first ≤ last) × (last ≤ n_of gf p.component) }
-    requires node_bound { (h.node < n_of gf (next_axis p.component)) × (k.node < n_of gf (last_axis p.component)) }
-    ensures { result ≡ weigh_line gf (read_from eps.now from) p first (last - first) h s k }
+// One line of fine edges more, along a cell, through the nodes of two hats.
+fn weigh_line(c: Cell, eps: &[f64], from: usize, h: Hat, s: Weighed, k: Hat) -> Weighed
+    requires cell { CellFits c }
+    requires from_bound { (from ≤ 2 ^ 32) × (2 * (from + unknowns_of c.grid) ≤ length eps.now) }
+    requires node_bound { (h.node < n_of c.grid (next_axis c.p.component)) × (k.node < n_of c.grid (last_axis c.p.component)) }
+    ensures { result ≡ weigh_line c.grid (read_from eps.now from) c.p c.first (c.last - c.first) h s k }
 {
-    let inverse = eps::sum_of_inverses(gf, eps, from, through(p, h, k), first, last);
+    let inverse = eps::sum_of_inverses(c.grid, eps, from, through(c.p, h, k), c.first, c.last);
     let w = h.weight * k.weight;
-    let count = last - first;
-    let mean = numbers::real_over(w * count as f64, inverse);
+    let count = c.last - c.first;
+    let mean = w * count as f64 / inverse;
     Weighed {
-        total: numbers::add(s.total, mean),
+        total: s.total + mean,
         weight: s.weight + w,
     }
 }
 
-// The lines through a hat and each of the n hats that stand from place j on.
-fn weigh_lines(
-    gf: Grid3d,
-    eps: &[f64],
-    from: usize,
-    p: Position,
-    first: usize,
-    last: usize,
-    h: Hat,
-    s: Weighed,
-    nodes: &[usize],
-    weights: &[f64],
-    j: usize,
-    n: usize,
-) -> Weighed
-    requires limits { Limits gf }
-    requires from_bound { (from ≤ 2 ^ 32) × (2 * (from + unknowns_of gf) ≤ length eps.now) }
-    requires component_bound { (p.component < 3) × (first ≤ last) × (last ≤ n_of gf p.component) }
-    requires node_bound { h.node < n_of gf (next_axis p.component) }
-    requires hats_fit { HatsFit (n_of gf (last_axis p.component)) j n nodes.now weights.now }
-    ensures { result ≡ weigh_lines gf (read_from eps.now from) p first (last - first) h s (hats_in nodes.now weights.now j n) }
-{
-    let mut sum = s;
-    for q in 0..n {
-        let k = Hat {
-            node: nodes[j + q],
-            weight: weights[j + q],
-        };
-        sum = weigh_line(gf, eps, from, p, first, last, h, sum, k);
-    }
-    sum
-}
-
-// The lines through each pair of the hats from places i and j on.
-fn weigh_all(
-    gf: Grid3d,
-    eps: &[f64],
-    from: usize,
-    p: Position,
-    first: usize,
-    last: usize,
-    nodes: &[usize],
-    weights: &[f64],
-    i: usize,
-    m: usize,
-    j: usize,
-    n: usize,
-) -> Weighed
-    requires limits { Limits gf }
-    requires from_bound { (from ≤ 2 ^ 32) × (2 * (from + unknowns_of gf) ≤ length eps.now) }
-    requires component_bound { (p.component < 3) × (first ≤ last) × (last ≤ n_of gf p.component) }
-    requires hats_fit { HatsFit (n_of gf (next_axis p.component)) i m nodes.now weights.now }
-    requires hats_fit_2 { HatsFit (n_of gf (last_axis p.component)) j n nodes.now weights.now }
-    ensures { result ≡ weigh_all gf (read_from eps.now from) p first (last - first) (hats_in nodes.now weights.now j n)
-        nothing (hats_in nodes.now weights.now i m) }
+// The mean over the lines through each pair of hats: those on the next axis across, and those on the last.
+fn mean_over(c: Cell, eps: &[f64], from: usize, next: &[Hat], last: &[Hat]) -> C64
+    requires cell { CellFits c }
+    requires from_bound { (from ≤ 2 ^ 32) × (2 * (from + unknowns_of c.grid) ≤ length eps.now) }
+    requires next_below { NodesBelow (n_of c.grid (next_axis c.p.component)) next.now }
+    requires last_below { NodesBelow (n_of c.grid (last_axis c.p.component)) last.now }
+    ensures { result ≡ mean_of (weigh_all c.grid (read_from eps.now from) c.p c.first (c.last - c.first) last.now nothing next.now) }
 {
     let mut sum = Weighed {
-        total: numbers::zero(),
+        total: C64::zero(),
         weight: 0.0,
     };
-    for q in 0..m {
-        let h = Hat {
-            node: nodes[i + q],
-            weight: weights[i + q],
-        };
-        sum = weigh_lines(gf, eps, from, p, first, last, h, sum, nodes, weights, j, n);
+    // The same nest as in `any_over`: one sums, one ends early, and a closure over both would be longer than either.
+    for h in next {
+        for k in last {
+            sum = weigh_line(c, eps, from, *h, sum, *k);
+        }
     }
-    sum
+    sum.total / sum.weight
+}
+
+// The cell of the coarse edge at p. nn has the nodes' numbers, 65 for each axis.
+fn cell_of(gf: Grid3d, nn: &[usize], p: Position) -> Cell
+    requires { CellReady gf p nn.now }
+    ensures { (CellFits result) × (result ≡ cell_in gf nn.now p) }
+{
+    let m = 65 * p.component + grid::place_on(p, p.component);
+    Cell {
+        grid: gf,
+        p,
+        first: nn[m],
+        last: nn[m + 1],
+    }
+}
+
+// The hats around the node of p on an axis.
+fn hats_at<'a>(hats: &'a [Hat], counts: &[usize], p: Position, axis: usize) -> &'a [Hat]
+    requires axis_bound { (axis < 3) × (place_on p axis < 64) × (length counts.now ≡ hat_counts) }
+    requires hats_fit { 128 * (64 * axis + place_on p axis) + get_or counts.now (64 * axis + place_on p axis) 0 ≤ length hats.now }
+    ensures { result.now ≡ hats_by hats.now counts.now p axis }
+{
+    let b = 64 * axis + grid::place_on(p, axis);
+    &hats[128 * b..128 * b + counts[b]]
 }
 
 // The permittivity of the coarse edge at p. nn has the nodes' numbers, 65 for each axis.
 pub fn averaged_eps_at(
     gf: Grid3d,
     nn: &[usize],
-    nodes: &[usize],
-    weights: &[f64],
+    hats: &[Hat],
     counts: &[usize],
     eps: &[f64],
     from: usize,
     p: Position,
 ) -> C64
-    requires limits { Limits gf }
     requires from_bound { (from ≤ 2 ^ 32) × (2 * (from + unknowns_of gf) ≤ length eps.now) }
-    requires average_ready { AverageReady gf p nn.now nodes.now weights.now counts.now }
-    ensures { result ≡ averaged_in gf nn.now nodes.now weights.now counts.now (read_from eps.now from) p }
+    requires average_ready { AverageReady gf p nn.now hats.now counts.now }
+    ensures { result ≡ averaged_in gf nn.now hats.now counts.now (read_from eps.now from) p }
 {
-    let a = p.component;
-    let b = 64 * grid::next_axis(a) + grid::place_on(p, grid::next_axis(a));
-    let c = 64 * grid::last_axis(a) + grid::place_on(p, grid::last_axis(a));
-    let m = 65 * a + grid::place_on(p, a);
-    let s = weigh_all(
-        gf,
-        eps,
-        from,
-        p,
-        nn[m],
-        nn[m + 1],
-        nodes,
-        weights,
-        128 * b,
-        counts[b],
-        128 * c,
-        counts[c],
-    );
-    numbers::over_real(s.total, s.weight)
+    let next = hats_at(hats, counts, p, grid::next_axis(p.component));
+    let last = hats_at(hats, counts, p, grid::last_axis(p.component));
+    mean_over(cell_of(gf, nn, p), eps, from, next, last)
 }
 
 // Those of a whole level, read from place `from` on and laid into the same list from place `to` on.
@@ -422,22 +342,20 @@ fn all_averaged(
     gf: Grid3d,
     gc: Grid3d,
     nn: &[usize],
-    nodes: &[usize],
-    weights: &[f64],
+    hats: &[Hat],
     counts: &[usize],
     eps: &mut [f64],
     from: usize,
     to: usize,
 )
     requires limits { (Limits gf) × (Limits gc) }
-    requires averages_ready { AveragesReady gf gc nn.now nodes.now weights.now counts.now }
+    requires averages_ready { AveragesReady gf gc nn.now hats.now counts.now }
     requires chain_room { ChainRoom (unknowns_of gf) (unknowns_of gc) from to eps.old }
-    ensures { eps.new ≡ laid_numbers eps.old to (tabulate (averaged_no gf gc nn.now nodes.now weights.now
-        counts.now (read_from eps.old from)) (unknowns_of gc) 0) }
+    ensures { eps.new ≡ laid_numbers eps.old to (tabulate (averaged_no gf gc nn.now hats.now counts.now (read_from eps.old from)) (unknowns_of gc) 0) }
 {
     let n = grid::unknowns(gc);
     for r in 0..n {
-        let v = averaged_eps_at(gf, nn, nodes, weights, counts, eps, from, grid::at(gc, r));
+        let v = averaged_eps_at(gf, nn, hats, counts, eps, from, grid::at(gc, r));
         numbers::put(eps, to + r, v);
     }
 }
@@ -462,11 +380,10 @@ pub fn averaged_eps(
     let gf = tables::grid_of(l.grid, fine);
     let gc = tables::grid_of(l.grid, coarse);
     let nn = tables::nodes(l, st, fine, coarse);
-    let mut nodes = [0usize; HAT_PLACES];
-    let mut weights = [0.0; HAT_PLACES];
+    let mut around = [NO_HAT; HAT_PLACES];
     let mut counts = [0usize; HAT_COUNTS];
-    hats(l, st, fine, coarse, &mut nodes, &mut weights, &mut counts);
-    all_averaged(gf, gc, &nn, &nodes, &weights, &counts, eps, from, to);
+    hats(l, st, fine, coarse, &mut around, &mut counts);
+    all_averaged(gf, gc, &nn, &around, &counts, eps, from, to);
     lists::finite_numbers(eps, to, grid::unknowns(gc))
 }
 
@@ -493,20 +410,19 @@ fn around_on(
     nn: &[usize],
     axis: usize,
     m: usize,
-    nodes: &mut [usize],
-    weights: &mut [f64],
+    hats: &mut [Hat],
     from: usize,
 ) -> usize
     requires paired_lines { PairedLines (full_lattice l st.now) fine coarse }
     requires nn_value { nn.now ≡ tabulate (node_no (two_of (full_lattice l st.now) fine coarse)) node_count 0 }
     requires axis_bound { (axis < 3) × (m < coarse_cells (two_of (full_lattice l st.now) fine coarse) axis) × (from < 2 ^ 20) }
-    ensures { HatsLaid nodes.old weights.old from (hats_around (two_of (full_lattice l st.now) fine coarse) axis m)
-        nodes.new weights.new result }
+    ensures { HatsLaid hats.old from (hats_around (two_of (full_lattice l st.now) fine coarse) axis m)
+        hats.new result }
 {
     let wall = lattice::lattice::is_wall(lattice::lattice::edges_on(l, st, axis));
     let f = line_on(fine, axis);
     let c = line_on(coarse, axis);
-    push_around(f, c, nn, 65 * axis, wall, m, nodes, weights, from)
+    push_around(f, c, nn, 65 * axis, wall, m, hats, from)
 }
 
 // Those around the node of a coarse edge at p on the axes across it: on the next from place 0 on, on the last from place 128 on.
@@ -517,21 +433,20 @@ fn hats_across(
     coarse: Three,
     nn: &[usize],
     p: Position,
-    nodes: &mut [usize],
-    weights: &mut [f64],
+    hats: &mut [Hat],
 ) -> Counts
     requires paired_lines { PairedLines (full_lattice l st.now) fine coarse }
     requires nn_value { nn.now ≡ tabulate (node_no (two_of (full_lattice l st.now) fine coarse)) node_count 0 }
     requires inside { Inside (coarse_grid (two_of (full_lattice l st.now) fine coarse)) p }
-    requires nodes_len { (length nodes.old ≡ 256) × (length weights.old ≡ 256) }
-    ensures { HatsAcross (two_of (full_lattice l st.now) fine coarse) p nodes.new weights.new result }
+    requires hats_len { length hats.old ≡ 256 }
+    ensures { HatsAcross (two_of (full_lattice l st.now) fine coarse) p hats.new result }
 {
     let b = grid::next_axis(p.component);
     let c = grid::last_axis(p.component);
     let i = grid::place_on(p, b);
     let j = grid::place_on(p, c);
-    let next = around_on(l, st, fine, coarse, nn, b, i, nodes, weights, 0);
-    let last = around_on(l, st, fine, coarse, nn, c, j, nodes, weights, 128);
+    let next = around_on(l, st, fine, coarse, nn, b, i, hats, 0);
+    let last = around_on(l, st, fine, coarse, nn, c, j, hats, 128);
     Counts {
         next: next,
         last: last - 128,
@@ -557,25 +472,10 @@ fn averaged_edge(
 {
     let gf = tables::grid_of(l.grid, fine);
     let p = grid::at(tables::grid_of(l.grid, coarse), r);
-    let mut nodes = [0usize; 256];
-    let mut weights = [0.0; 256];
-    let k = hats_across(l, st, fine, coarse, nn, p, &mut nodes, &mut weights);
-    let m = 65 * p.component + grid::place_on(p, p.component);
-    let s = weigh_all(
-        gf,
-        eps,
-        from,
-        p,
-        nn[m],
-        nn[m + 1],
-        &nodes,
-        &weights,
-        0,
-        k.next,
-        128,
-        k.last,
-    );
-    numbers::over_real(s.total, s.weight)
+    let mut hats = [NO_HAT; 256];
+    let k = hats_across(l, st, fine, coarse, nn, p, &mut hats);
+    let c = cell_of(gf, nn, p);
+    mean_over(c, eps, from, &hats[..k.next], &hats[128..128 + k.last])
 }
 
 // The permittivity of coarse edge r of two alone, put into its place, those of the level beginning at place `to`; whether it is finite.
@@ -599,30 +499,21 @@ pub fn averaged_row(
 {
     let v = averaged_edge(l, st, fine, coarse, nn, eps, from, r);
     numbers::put(eps, to + r, v);
-    numbers::is_finite(v)
+    v.is_finite()
 }
 
 // ---- what one edge reads: is some of it flagged?
 
-// Of one line, from place `first` up to `last` along the component of p, through the nodes of two hats.
-fn line_flagged(
-    gf: Grid3d,
-    flags: &[bool],
-    p: Position,
-    first: usize,
-    last: usize,
-    h: Hat,
-    k: Hat,
-) -> bool
-    requires limits { Limits gf }
-    requires gf_in_bounds { unknowns_of gf ≤ length flags.now }
-    requires component_bound { (p.component < 3) × (first ≤ last) × (last ≤ n_of gf p.component) }
-    requires node_bound { (h.node < n_of gf (next_axis p.component)) × (k.node < n_of gf (last_axis p.component)) }
-    ensures { result ≡ any_flag flags.now (line_edges gf p first (last - first) h k) }
+// Of one line along a cell, through the nodes of two hats.
+fn line_flagged(c: Cell, flags: &[bool], h: Hat, k: Hat) -> bool
+    requires cell { CellFits c }
+    requires flags_in_bounds { unknowns_of c.grid ≤ length flags.now }
+    requires node_bound { (h.node < n_of c.grid (next_axis c.p.component)) × (k.node < n_of c.grid (last_axis c.p.component)) }
+    ensures { result ≡ any_flag flags.now (line_edges c.grid c.p c.first (c.last - c.first) h k) }
 {
-    let q = through(p, h, k);
-    for m in first..last {
-        let e = grid::index(gf, grid::moved_to(q, q.component, m));
+    let q = through(c.p, h, k);
+    for m in c.first..c.last {
+        let e = grid::index(c.grid, grid::moved_to(q, q.component, m));
         if flags[e] {
             return true;
         }
@@ -630,69 +521,19 @@ fn line_flagged(
     false
 }
 
-// Of the lines through a hat and each of the n hats that stand from place j on.
-fn lines_flagged(
-    gf: Grid3d,
-    flags: &[bool],
-    p: Position,
-    first: usize,
-    last: usize,
-    h: Hat,
-    nodes: &[usize],
-    weights: &[f64],
-    j: usize,
-    n: usize,
-) -> bool
-    requires limits { Limits gf }
-    requires gf_in_bounds { unknowns_of gf ≤ length flags.now }
-    requires component_bound { (p.component < 3) × (first ≤ last) × (last ≤ n_of gf p.component) }
-    requires node_bound { h.node < n_of gf (next_axis p.component) }
-    requires hats_fit { HatsFit (n_of gf (last_axis p.component)) j n nodes.now weights.now }
-    ensures { result ≡ any_flag flags.now (hat_edges gf p first (last - first) (hats_in nodes.now weights.now j n) h) }
+// Of the lines through each pair of hats.
+fn any_over(c: Cell, flags: &[bool], next: &[Hat], last: &[Hat]) -> bool
+    requires cell { CellFits c }
+    requires flags_in_bounds { unknowns_of c.grid ≤ length flags.now }
+    requires next_below { NodesBelow (n_of c.grid (next_axis c.p.component)) next.now }
+    requires last_below { NodesBelow (n_of c.grid (last_axis c.p.component)) last.now }
+    ensures { result ≡ any_flag flags.now (each (hat_edges c.grid c.p c.first (c.last - c.first) last.now) next.now) }
 {
-    let end = j + n;
-    for q in j..end {
-        let k = Hat {
-            node: nodes[q],
-            weight: weights[q],
-        };
-        if line_flagged(gf, flags, p, first, last, h, k) {
-            return true;
-        }
-    }
-    false
-}
-
-// Of the lines through each pair of the hats from places i and j on.
-fn all_flagged(
-    gf: Grid3d,
-    flags: &[bool],
-    p: Position,
-    first: usize,
-    last: usize,
-    nodes: &[usize],
-    weights: &[f64],
-    i: usize,
-    m: usize,
-    j: usize,
-    n: usize,
-) -> bool
-    requires limits { Limits gf }
-    requires gf_in_bounds { unknowns_of gf ≤ length flags.now }
-    requires component_bound { (p.component < 3) × (first ≤ last) × (last ≤ n_of gf p.component) }
-    requires hats_fit { HatsFit (n_of gf (next_axis p.component)) i m nodes.now weights.now }
-    requires hats_fit_2 { HatsFit (n_of gf (last_axis p.component)) j n nodes.now weights.now }
-    ensures { result ≡ any_flag flags.now (each (hat_edges gf p first (last - first) (hats_in nodes.now weights.now j n))
-        (hats_in nodes.now weights.now i m)) }
-{
-    let end = i + m;
-    for q in i..end {
-        let h = Hat {
-            node: nodes[q],
-            weight: weights[q],
-        };
-        if lines_flagged(gf, flags, p, first, last, h, nodes, weights, j, n) {
-            return true;
+    for h in next {
+        for k in last {
+            if line_flagged(c, flags, *h, *k) {
+                return true;
+            }
         }
     }
     false
@@ -716,21 +557,8 @@ pub fn averaged_flagged(
 {
     let gf = tables::grid_of(l.grid, fine);
     let p = grid::at(tables::grid_of(l.grid, coarse), r);
-    let mut nodes = [0usize; 256];
-    let mut weights = [0.0; 256];
-    let k = hats_across(l, st, fine, coarse, nn, p, &mut nodes, &mut weights);
-    let m = 65 * p.component + grid::place_on(p, p.component);
-    all_flagged(
-        gf,
-        flags,
-        p,
-        nn[m],
-        nn[m + 1],
-        &nodes,
-        &weights,
-        0,
-        k.next,
-        128,
-        k.last,
-    )
+    let mut hats = [NO_HAT; 256];
+    let k = hats_across(l, st, fine, coarse, nn, p, &mut hats);
+    let c = cell_of(gf, nn, p);
+    any_over(c, flags, &hats[..k.next], &hats[128..128 + k.last])
 }

@@ -2,18 +2,18 @@
 
 ghost use Rattle.std.specs.Prelude.{◌≡◌, true, ◌+◌, ◌<◌, ◌≤◌, length};
 ghost use Rattle.numbers.specs.Lists.{tabulate, laid};
-ghost use Rattle.operators.specs.Numbered.{name_no, role_no, relations_laid};
+ghost use Rattle.operators.specs.Pattern.{role_of};
+ghost use Rattle.operators.specs.Numbered.{name_no, relations_laid};
 ghost use Rattle.operators.specs.Base.{live_at, follows, base_of, place_of, base_word, base_words, OnlyAfter, OnlyBefore, Sizes};
 ghost use Rattle.operators.specs.Bits.{mix_of, single};
 
 use crate::words;
 
-// Is the place not held fixed? Role 0 is along, 1 across.
-fn live(bloch: bool, role: usize, i: usize) -> bool
-    requires { role < 2 }
-    ensures { result ≡ live_at bloch (role_no role) i }
+// Is the place not held fixed? On the row's or column's own axis, along it, none is.
+fn live(bloch: bool, along: bool, i: usize) -> bool
+    ensures { result ≡ live_at bloch (role_of along) i }
 {
-    if role == 0 {
+    if along {
         return true;
     }
     bloch || i != 0
@@ -28,7 +28,8 @@ fn follows(n: usize, bloch: bool, i: usize, j: usize) -> bool
     near || (bloch && i + 1 == n && j == 0)
 }
 
-// Is j related to i by relation number w?
+// Is j related to i by relation number w? A number, not an enum: it is the place of the relation's words in the list of a level,
+// where `no` of tables.rt and the loops over all eighteen find them.
 fn related(n: usize, bloch: bool, w: usize, i: usize, j: usize) -> bool
     requires { (w < 6) × (i < 64) × (j < 64) }
     ensures { result ≡ base_of n bloch (name_no w) i j }
@@ -37,15 +38,16 @@ fn related(n: usize, bloch: bool, w: usize, i: usize, j: usize) -> bool
     let up = follows(n, bloch, i, j);
     let down = follows(n, bloch, j, i);
     if w < 2 {
-        return live(bloch, w, i) && here;
+        return live(bloch, w == 0, i) && here;
     }
     if w < 4 {
-        return live(bloch, w - 2, i) && live(bloch, w - 2, j) && (here || (up || down));
+        let along = w == 2;
+        return live(bloch, along, i) && live(bloch, along, j) && (here || (up || down));
     }
     if w == 4 {
-        return live(bloch, 1, j) && (here || up);
+        return live(bloch, false, j) && (here || up);
     }
-    live(bloch, 1, i) && (here || down)
+    live(bloch, false, i) && (here || down)
 }
 
 // The only place that can come next after i.
@@ -59,17 +61,14 @@ fn place_after(n: usize, i: usize) -> usize
     0
 }
 
-// The only place that i can come next after.
+// The only place that i can come next after. No twin of `place_after`: another end wraps, and to another place.
 fn place_before(n: usize, i: usize) -> usize
     ensures { OnlyBefore n i result }
 {
     if i > 0 {
         return i - 1;
     }
-    if n > 0 {
-        return n - 1;
-    }
-    0
+    n.saturating_sub(1)
 }
 
 // The set, with j if it is a place that relation number w has at i.

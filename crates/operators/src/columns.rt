@@ -37,10 +37,8 @@ pub fn write_line(w: u64, n: usize, base: usize, out: &mut [usize], at: usize) -
     ensures { Listed out.old at (line w base n 0) out.new result }
 {
     let mut next = at;
-    let mut i = words::next_place(w, 0);
-    while i < n {
+    for i in words::places_below(w, n) {
         next = put(true, out, next, base + i);
-        i = words::next_place(w, i + 1);
     }
     next
 }
@@ -62,11 +60,10 @@ pub fn write_plane(
 {
     let both = words::mix(true, a, true, b);
     let mut next = at;
-    let mut j = words::next_place(both, 0);
-    while j < ny {
+    // No twin of the loops in `write_line` and `write_block`: what a place adds is a line here, a column and a plane there.
+    for j in words::places_below(both, ny) {
         let w = words::mix(words::bit(a, j), t, words::bit(b, j), s);
         next = write_line(w, nx, base + nx * j, out, next);
-        j = words::next_place(both, j + 1);
     }
     next
 }
@@ -87,13 +84,11 @@ pub fn write_block(
     let area = nx * ny;
     let both = words::mix(true, p.sz, true, p.tz);
     let mut next = at;
-    let mut k = words::next_place(both, 0);
-    while k < nz {
+    for k in words::places_below(both, nz) {
         let same = words::bit(p.sz, k);
         let a = words::mix(same, p.sy, false, 0);
         let b = words::mix(same, p.ty, words::bit(p.tz, k), p.sy);
         next = write_plane(p.sx, p.tx, a, b, nx, ny, base + area * k, out, next);
-        k = words::next_place(both, k + 1);
     }
     next
 }

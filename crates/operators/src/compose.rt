@@ -1,33 +1,21 @@
 // Relations of an axis as words, one level down.
 
-ghost use Rattle.std.specs.Prelude.{◌≡◌, ◌+◌, ◌<◌, ◌≤◌, length};
-ghost use Rattle.numbers.specs.Lists.{tabulate, laid};
-ghost use Rattle.operators.specs.Bits.{bit_at, gathered};
-ghost use Rattle.operators.specs.Compose.{words_at, bits_of, composed_word};
-ghost use Rattle.operators.specs.Relation.{turned};
+ghost use Rattle.std.specs.Prelude.{◌≡◌, ℕ, Bool, ◌+◌, ◌<◌, ◌≤◌, length};
+ghost use Rattle.numbers.specs.Lists.{tabulate, laid, entry_at};
+ghost use Rattle.operators.specs.Bits.{gathered};
+ghost use Rattle.operators.specs.Compose.{words_at, composed_word};
 
 use crate::words;
 
-// The places that r brings from the places k whose word in f has c.
-pub fn turned_word(f: &[u64], fat: usize, r: &[u64], rat: usize, n: usize, c: usize) -> u64
-    requires { (fat + n ≤ length f.now) × (rat + n ≤ length r.now) × (c < 64) }
-    ensures { result ≡ gathered n (turned (bits_of (words_at f.now fat)) c) (words_at r.now rat) }
+// The places that the words of a list bring from the places that p takes.
+fn gathered<P: Fn(usize) -> bool>(p: P, list: &[u64]) -> u64
+    requires { (k : ℕ) → k < length list.now → P.pre p k }
+    ensures { (q : ℕ → Bool) → ((k : ℕ) (b : Bool) → k < length list.now → P.post p k b → b ≡ q k)
+        → result ≡ gathered (length list.now) q (entry_at list.now) }
 {
     let mut w = 0;
-    for k in 0..n {
-        w = words::mix(true, w, words::bit(f[fat + k], c), r[rat + k]);
-    }
-    w
-}
-
-// The places that g brings from the places of u.
-pub fn through_word(u: u64, g: &[u64], gat: usize, n: usize) -> u64
-    requires { (gat + n ≤ length g.now) × (n ≤ 64) }
-    ensures { result ≡ gathered n (bit_at u) (words_at g.now gat) }
-{
-    let mut w = 0;
-    for k in 0..n {
-        w = words::mix(true, w, words::bit(u, k), g[gat + k]);
+    for (k, v) in list.iter().enumerate() {
+        w = words::mix(true, w, p(k), *v);
     }
     w
 }
@@ -50,7 +38,8 @@ pub fn compose(
         (words_at g.now gat)) m 0) }
 {
     for c in 0..m {
-        let u = turned_word(f, fat, r, rat, n, c);
-        out[at + c] = through_word(u, g, gat, n);
+        // The places that r brings from the places k whose word in f has c, then those that g brings from these.
+        let u = gathered(move |k| words::bit(f[fat + k], c), &r[rat..rat + n]);
+        out[at + c] = gathered(move |k| words::bit(u, k), &g[gat..gat + n]);
     }
 }

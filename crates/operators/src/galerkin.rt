@@ -6,7 +6,7 @@ ghost use Rattle.numbers.specs.Places.{number_at};
 ghost use Rattle.lattice.specs.Lattice.{full_lattice};
 ghost use Rattle.numbers.specs.Lists.{each, laid_numbers};
 ghost use Rattle.numbers.specs.Terms.{terms_in, Stored, most_rows};
-ghost use Rattle.operators.specs.Galerkin.{scaled_term, forward_terms, fine_terms, galerkin_terms, rows_in, fine_row, HasRow, HasRows, FineGiven, TurnedGiven, RowsGiven, sums_at, no_sums, diagonal_one, row_laid, Gathered, Cleared, ColumnsBelow, RowReady, RowsReady, NumbersLaid, sum_doubles};
+ghost use Rattle.operators.specs.Galerkin.{scaled_term, forward_terms, fine_terms, galerkin_terms, rows_of, fine_row, HasRow, HasRows, FineGiven, TurnedGiven, RowsGiven, sums_at, no_sums, diagonal_one, row_laid, Gathered, Cleared, ColumnsBelow, RowReady, RowsReady, NumbersLaid, sum_doubles};
 
 use crate::stencil;
 use lattice::lattice::Lattice;
@@ -23,12 +23,21 @@ pub enum FineRows {
     Stored(Part),
 }
 
+// Rows that stand in three lists: the starts of each and its terms, from a part on.
+#[derive(Clone, Copy)]
+pub struct Rows<'a> {
+    pub part: Part,
+    pub starts: &'a [usize],
+    pub columns: &'a [usize],
+    pub values: &'a [f64],
+}
+
 // One term, added to the sum at its column; where there is no such sum it is left out.
 fn add_term(sums: &mut [f64], c: usize, v: C64)
     ensures { Gathered (record { column = c; number = v } ∷ []) sums.old sums.new }
 {
     let s = numbers::find(sums, c);
-    numbers::put(sums, c, numbers::add(s, v));
+    numbers::put(sums, c, s + v);
 }
 
 // The terms from place first up to last, each times wv.
@@ -43,28 +52,21 @@ fn add_forward(
     requires { (last ≤ length columns.now) × (2 * last ≤ length values.now) }
     ensures { Gathered (each (scaled_term wv) (terms_in columns.now values.now first (last - first))) sums.old sums.new }
 {
+    // An index: a term's column and its number stand at the same place of two lists, the number as two doubles.
     for q in first..last {
         let u = numbers::get(values, q);
-        add_term(sums, columns[q], numbers::mul(wv, u));
+        add_term(sums, columns[q], wv * u);
     }
 }
 
 // The forward row of column c, taken with wv.
-fn add_column(
-    wv: C64,
-    c: usize,
-    p: Part,
-    starts: &[usize],
-    columns: &[usize],
-    values: &[f64],
-    sums: &mut [f64],
-)
-    requires { HasRow p starts.now columns.now values.now c }
-    ensures { Gathered (each (scaled_term wv) (rows_in p starts.now columns.now values.now c)) sums.old sums.new }
+fn add_column(wv: C64, c: usize, p: &Rows<'_>, sums: &mut [f64])
+    requires { HasRow p.now.part p.now.starts.now p.now.columns.now p.now.values.now c }
+    ensures { Gathered (each (scaled_term wv) (rows_of p.now c)) sums.old sums.new }
 {
-    let first = p.k + starts[p.s + c];
-    let last = p.k + starts[p.s + c + 1];
-    add_forward(wv, columns, values, first, last, sums);
+    let first = p.part.k + p.starts[p.part.s + c];
+    let last = p.part.k + p.starts[p.part.s + c + 1];
+    add_forward(wv, p.columns, p.values, first, last, sums);
 }
 
 // The terms of a fine row from place `at` on, `count` of them, each taken with weight w through the forward row of its column.
@@ -74,22 +76,20 @@ fn add_fine(
     xs: &[f64],
     at: usize,
     count: usize,
-    p: Part,
-    starts: &[usize],
-    columns: &[usize],
-    values: &[f64],
+    p: &Rows<'_>,
     sums: &mut [f64],
 )
     requires count_in_bounds { (at + count ≤ length cs.now) × (2 * (at + count) ≤ length xs.now) × (at + count ≤ 2 ^ 40) }
-    requires has_rows { HasRows p starts.now columns.now values.now cs.now at count }
+    requires has_rows { HasRows p.now.part p.now.starts.now p.now.columns.now p.now.values.now cs.now at count }
     ensures { Gathered
-        (each (forward_terms (rows_in p starts.now columns.now values.now) w) (terms_in cs.now xs.now at count))
+        (each (forward_terms (rows_of p.now) w) (terms_in cs.now xs.now at count))
         sums.old sums.new }
 {
     let last = at + count;
+    // An index, as above. The loop is `add_forward`'s but for its step: with the step as a closure neither would be shorter.
     for q in at..last {
         let v = numbers::get(xs, q);
-        add_column(numbers::mul(w, v), cs[q], p, starts, columns, values, sums);
+        add_column(w * v, cs[q], p, sums);
     }
 }
 
@@ -104,16 +104,13 @@ fn add_row(
     ovalues: &[f64],
     r: usize,
     w: C64,
-    p: Part,
-    starts: &[usize],
-    columns: &[usize],
-    values: &[f64],
+    p: &Rows<'_>,
     sums: &mut [f64],
 )
-    requires { FineGiven fine (full_lattice l st.now) eps.now ostarts.now ocolumns.now ovalues.now p starts.now columns.now values.now r }
+    requires { FineGiven fine (full_lattice l st.now) eps.now ostarts.now ocolumns.now ovalues.now p.now.part p.now.starts.now p.now.columns.now p.now.values.now r }
     ensures { Gathered (fine_terms
         (fine_row fine (full_lattice l st.now) (number_at eps.now) ostarts.now ocolumns.now ovalues.now)
-        (rows_in p starts.now columns.now values.now)
+        (rows_of p.now)
         (record { column = r; number = w })) sums.old sums.new }
 {
     match fine {
@@ -121,23 +118,12 @@ fn add_row(
             let mut cs = [0usize; 30];
             let mut xs = [0.0; 60];
             let count = stencil::stencil_row(l, st, eps, r, &mut cs, &mut xs);
-            add_fine(w, &cs, &xs, 0, count, p, starts, columns, values, sums);
+            add_fine(w, &cs, &xs, 0, count, p, sums);
         }
         FineRows::Stored(f) => {
             let first = ostarts[f.s + r];
             let last = ostarts[f.s + r + 1];
-            add_fine(
-                w,
-                ocolumns,
-                ovalues,
-                f.k + first,
-                last - first,
-                p,
-                starts,
-                columns,
-                values,
-                sums,
-            );
+            add_fine(w, ocolumns, ovalues, f.k + first, last - first, p, sums);
         }
     }
 }
@@ -151,28 +137,23 @@ fn gather(
     ostarts: &[usize],
     ocolumns: &[usize],
     ovalues: &[f64],
-    p: Part,
-    starts: &[usize],
-    columns: &[usize],
-    values: &[f64],
-    t: Part,
-    tstarts: &[usize],
-    tcolumns: &[usize],
-    tvalues: &[f64],
+    p: &Rows<'_>,
+    t: &Rows<'_>,
     c: usize,
     sums: &mut [f64],
 )
     requires { TurnedGiven fine (full_lattice l st.now) eps.now ostarts.now ocolumns.now ovalues.now
-        p starts.now columns.now values.now t tstarts.now tcolumns.now tvalues.now c }
+        p.now.part p.now.starts.now p.now.columns.now p.now.values.now t.now.part t.now.starts.now t.now.columns.now t.now.values.now c }
     ensures { Gathered (galerkin_terms
         (fine_row fine (full_lattice l st.now) (number_at eps.now) ostarts.now ocolumns.now ovalues.now)
-        (rows_in p starts.now columns.now values.now)
-        (rows_in t tstarts.now tcolumns.now tvalues.now c)) sums.old sums.new }
+        (rows_of p.now)
+        (rows_of t.now c)) sums.old sums.new }
 {
-    let first = t.k + tstarts[t.s + c];
-    let last = t.k + tstarts[t.s + c + 1];
+    let first = t.part.k + t.starts[t.part.s + c];
+    let last = t.part.k + t.starts[t.part.s + c + 1];
+    // An index, as above.
     for q in first..last {
-        let w = numbers::get(tvalues, q);
+        let w = numbers::get(t.values, q);
         add_row(
             fine,
             l,
@@ -181,12 +162,9 @@ fn gather(
             ostarts,
             ocolumns,
             ovalues,
-            tcolumns[q],
+            t.columns[q],
             w,
             p,
-            starts,
-            columns,
-            values,
             sums,
         );
     }
@@ -199,8 +177,8 @@ fn clear(columns: &[usize], k: usize, n: usize, sums: &mut [f64])
     requires { (k + n ≤ length columns.now) × (k + n ≤ 2 ^ 40) }
     ensures { Cleared columns.now k n sums.old sums.new }
 {
-    for q in 0..n {
-        numbers::put(sums, columns[k + q], numbers::zero());
+    for &c in &columns[k..k + n] {
+        numbers::put(sums, c, C64::zero());
     }
 }
 
@@ -210,7 +188,7 @@ fn diagonal(tstarts: &[usize], ts: usize, c: usize, sums: &mut [f64])
     ensures { sums.new ≡ diagonal_one tstarts.now ts c sums.old }
 {
     if tstarts[ts + c] == tstarts[ts + c + 1] {
-        numbers::put(sums, c, numbers::one());
+        numbers::put(sums, c, C64::one());
     }
 }
 
@@ -221,8 +199,8 @@ fn lay_sums(columns: &[usize], k: usize, n: usize, sums: &[f64], values: &mut [f
     requires columns_below { ColumnsBelow columns.now k n most_rows }
     ensures { values.new ≡ laid_numbers values.old k (sums_at columns.now sums.now k n) }
 {
-    for q in 0..n {
-        numbers::put(values, k + q, numbers::get(sums, columns[k + q]));
+    for (q, &c) in columns[k..k + n].iter().enumerate() {
+        numbers::put(values, k + q, numbers::get(sums, c));
     }
 }
 
@@ -234,14 +212,8 @@ pub fn galerkin_row(
     l: Lattice,
     st: &[f64],
     eps: &[f64],
-    p: Part,
-    starts: &[usize],
-    columns: &[usize],
-    values: &[f64],
-    t: Part,
-    tstarts: &[usize],
-    tcolumns: &[usize],
-    tvalues: &[f64],
+    p: &Rows<'_>,
+    t: &Rows<'_>,
     c: usize,
     o: Part,
     ostarts: &[usize],
@@ -250,25 +222,22 @@ pub fn galerkin_row(
     sums: &mut [f64],
 )
     requires turned_given { TurnedGiven fine (full_lattice l st.now) eps.now ostarts.now ocolumns.now ovalues.old
-        p starts.now columns.now values.now t tstarts.now tcolumns.now tvalues.now c }
+        p.now.part p.now.starts.now p.now.columns.now p.now.values.now t.now.part t.now.starts.now t.now.columns.now t.now.values.now c }
     requires row_ready { RowReady
         (fine_row fine (full_lattice l st.now) (number_at eps.now) ostarts.now ocolumns.now ovalues.old)
-        (rows_in p starts.now columns.now values.now)
-        (rows_in t tstarts.now tcolumns.now tvalues.now) c o ostarts.now ocolumns.now }
+        (rows_of p.now)
+        (rows_of t.now) c o ostarts.now ocolumns.now }
     requires sums_value { sums.old ≡ no_sums }
     ensures sums_after { sums.new ≡ no_sums }
     ensures ovalues_after { ovalues.new ≡ row_laid
         (fine_row fine (full_lattice l st.now) (number_at eps.now) ostarts.now ocolumns.now ovalues.old)
-        (rows_in p starts.now columns.now values.now)
-        (rows_in t tstarts.now tcolumns.now tvalues.now) c o ovalues.old }
+        (rows_of p.now)
+        (rows_of t.now) c o ovalues.old }
 {
     let at = o.k + ostarts[o.s + c];
     let count = ostarts[o.s + c + 1] - ostarts[o.s + c];
-    gather(
-        fine, l, st, eps, ostarts, ocolumns, ovalues, p, starts, columns, values, t, tstarts,
-        tcolumns, tvalues, c, sums,
-    );
-    diagonal(tstarts, t.s, c, sums);
+    gather(fine, l, st, eps, ostarts, ocolumns, ovalues, p, t, c, sums);
+    diagonal(t.starts, t.part.s, c, sums);
     lay_sums(ocolumns, at, count, sums, ovalues);
     clear(ocolumns, at, count, sums);
 }
@@ -282,14 +251,8 @@ pub fn galerkin(
     l: Lattice,
     st: &[f64],
     eps: &[f64],
-    p: Part,
-    starts: &[usize],
-    columns: &[usize],
-    values: &[f64],
-    t: Part,
-    tstarts: &[usize],
-    tcolumns: &[usize],
-    tvalues: &[f64],
+    p: &Rows<'_>,
+    t: &Rows<'_>,
     m: usize,
     o: Part,
     ostarts: &[usize],
@@ -297,21 +260,20 @@ pub fn galerkin(
     ovalues: &mut [f64],
 ) -> bool
     requires rows_given { RowsGiven fine (full_lattice l st.now) eps.now ostarts.now ocolumns.now ovalues.old
-        p starts.now columns.now values.now t tstarts.now tcolumns.now tvalues.now m o }
+        p.now.part p.now.starts.now p.now.columns.now p.now.values.now t.now.part t.now.starts.now t.now.columns.now t.now.values.now m o }
     requires rows_ready { RowsReady
         (fine_row fine (full_lattice l st.now) (number_at eps.now) ostarts.now ocolumns.now ovalues.old)
-        (rows_in p starts.now columns.now values.now)
-        (rows_in t tstarts.now tcolumns.now tvalues.now) m o ostarts.now ocolumns.now ovalues.old }
+        (rows_of p.now)
+        (rows_of t.now) m o ostarts.now ocolumns.now ovalues.old }
     ensures { NumbersLaid
         (fine_row fine (full_lattice l st.now) (number_at eps.now) ostarts.now ocolumns.now ovalues.old)
-        (rows_in p starts.now columns.now values.now)
-        (rows_in t tstarts.now tcolumns.now tvalues.now) m o ovalues.old ovalues.new result }
+        (rows_of p.now)
+        (rows_of t.now) m o ovalues.old ovalues.new result }
 {
     let mut sums = [0.0; SUM_DOUBLES];
     for c in 0..m {
         galerkin_row(
-            fine, l, st, eps, p, starts, columns, values, t, tstarts, tcolumns, tvalues, c, o,
-            ostarts, ocolumns, ovalues, &mut sums,
+            fine, l, st, eps, p, t, c, o, ostarts, ocolumns, ovalues, &mut sums,
         );
     }
     lists::finite_numbers(ovalues, o.k, ostarts[o.s + m])

@@ -3,7 +3,7 @@
 ghost use Rattle.lattice.specs.Lattice.{full_lattice};
 ghost use Rattle.operators.specs.LevelLists.{LevelReady, LevelLeft, AveragedReady, AveragedLeft};
 
-use crate::galerkin::FineRows;
+use crate::galerkin::{FineRows, Rows};
 use crate::{averaged, galerkin, pattern, rediscretized, stencil};
 use lattice::grid;
 use lattice::grid::Grid3d;
@@ -21,32 +21,23 @@ pub fn galerkin_level(
     eps: &[f64],
     g: Grid3d,
     u: &[u64],
-    p: Part,
-    starts: &[usize],
-    columns: &[usize],
-    values: &[f64],
-    t: Part,
-    tstarts: &[usize],
-    tcolumns: &[usize],
-    tvalues: &[f64],
+    p: &Rows<'_>,
+    t: &Rows<'_>,
     o: Part,
     ostarts: &mut [usize],
     ocolumns: &mut [usize],
     ovalues: &mut [f64],
 ) -> bool
     requires { LevelReady fine (full_lattice l st.now) eps.now g u.now
-        p starts.now columns.now values.now t tstarts.now tcolumns.now tvalues.now
+        p.now.part p.now.starts.now p.now.columns.now p.now.values.now t.now.part t.now.starts.now t.now.columns.now t.now.values.now
         o ostarts.old ocolumns.old ovalues.old }
     ensures { LevelLeft fine (full_lattice l st.now) eps.now g u.now
-        p starts.now columns.now values.now t tstarts.now tcolumns.now tvalues.now
+        p.now.part p.now.starts.now p.now.columns.now p.now.values.now t.now.part t.now.starts.now t.now.columns.now t.now.values.now
         o ostarts.old ocolumns.old ovalues.old ostarts.new ocolumns.new ovalues.new result }
 {
     pattern::level_columns(l, st, g, u, ostarts, o.s, ocolumns, o.k);
     let m = grid::unknowns(g);
-    galerkin::galerkin(
-        fine, l, st, eps, p, starts, columns, values, t, tstarts, tcolumns, tvalues, m, o, ostarts,
-        ocolumns, ovalues,
-    )
+    galerkin::galerkin(fine, l, st, eps, p, t, m, o, ostarts, ocolumns, ovalues)
 }
 
 // The rediscretized operator of the next level: its permittivities, the means of those that stand at place `from`, are laid from place `to` on; its

@@ -46,8 +46,8 @@ fn forward_word(ps: &[usize], ns: &[usize], q: usize) -> u64
 {
     let n = ns[q];
     let mut w = 0;
-    for d in 0..n {
-        w = words::mix(true, w, true, words::unit(ps[2 * q + d]));
+    for &p in &ps[2 * q..2 * q + n] {
+        w = words::mix(true, w, true, words::unit(p));
     }
     w
 }

@@ -41,7 +41,7 @@ fn cell_length(x: [C64; 129], f: Line, m: usize) -> C64
 {
     let first = f.ends[m];
     let last = f.ends[m + 1];
-    numbers::sub(x[last], x[first])
+    x[last] - x[first]
 }
 
 // The width of node 0's dual cell, by the map along: at a wall its half inside, twice; on a Bloch axis, across the period's end, in whole half-steps.
@@ -53,7 +53,7 @@ fn first_width(e: Edges, x: [C64; 129], f: Line) -> C64
     let n = f.cells;
     let first = line::place(f, 0, true);
     match e {
-        Edges::Pml => numbers::real_times(2.0, numbers::sub(x[first], x[0])),
+        Edges::Pml => 2.0 * (x[first] - x[0]),
         Edges::Bloch(_) => {
             let width = first + f.ends[n] - line::place(f, n - 1, true);
             C64 {
@@ -76,7 +76,7 @@ fn node_width(e: Edges, x: [C64; 129], f: Line, m: usize) -> C64
     }
     let before = line::place(f, m - 1, true);
     let here = line::place(f, m, true);
-    numbers::sub(x[here], x[before])
+    x[here] - x[before]
 }
 
 // The stretches of an axis, laid over a list of stretches: at its nodes, and half a step after them.
@@ -98,16 +98,8 @@ fn lay_axis(
     let n = f.cells;
     let u = unit(g, axis, n);
     for m in 0..n {
-        numbers::put(
-            out,
-            64 * axis + m,
-            numbers::real_times(u, node_width(e, along, f, m)),
-        );
-        numbers::put(
-            out,
-            192 + 64 * axis + m,
-            numbers::real_times(u, cell_length(across, f, m)),
-        );
+        numbers::put(out, 64 * axis + m, u * node_width(e, along, f, m));
+        numbers::put(out, 192 + 64 * axis + m, u * cell_length(across, f, m));
     }
 }
 

@@ -7,13 +7,13 @@ ghost use Rattle.lattice.specs.Grid.{unknowns_of, Limits, Inside};
 ghost use Rattle.lattice.specs.Lattice.{full_lattice};
 ghost use Rattle.numbers.specs.Lists.{tabulate, laid_numbers, all_finite, read_from};
 ghost use Rattle.numbers.specs.Terms.{terms_in, Stored};
-ghost use Rattle.operators.specs.Galerkin.{rows_in};
+ghost use Rattle.operators.specs.Galerkin.{rows_of};
 ghost use Rattle.operators.specs.Volumes.{side_of, volume_at, volume_of, weighted, share_of, inverse_of, inverse_share, share_finite, shares_finite, SharesRoom};
 
+use crate::galerkin::Rows;
 use lattice::grid;
 use lattice::grid::Position;
 use lattice::lattice::Lattice;
-use numbers::terms::Part;
 use numbers::{C64, lists};
 
 // A side of an edge's cell.
@@ -26,9 +26,9 @@ fn side(l: Lattice, st: &[f64], p: Position, axis: usize) -> C64
     let m = grid::place_on(p, axis);
     let step = grid::step(l.grid, axis);
     if axis == p.component {
-        return numbers::real_times(step, lattice::lattice::half(l, st, axis, m));
+        return step * lattice::lattice::half(l, st, axis, m);
     }
-    numbers::real_times(step, lattice::lattice::node(l, st, axis, m))
+    step * lattice::lattice::node(l, st, axis, m)
 }
 
 // The volume of edge r's cell: its sides, multiplied from (1, 0) on.
@@ -38,9 +38,9 @@ pub fn volume(l: Lattice, st: &[f64], r: usize) -> C64
     ensures { result ≡ volume_of (full_lattice l st.now) r }
 {
     let p = grid::at(l.grid, r);
-    let x = numbers::mul(numbers::one(), side(l, st, p, 0));
-    let y = numbers::mul(x, side(l, st, p, 1));
-    numbers::mul(y, side(l, st, p, 2))
+    let x = C64::one() * side(l, st, p, 0);
+    let y = x * side(l, st, p, 1);
+    y * side(l, st, p, 2)
 }
 
 // Those of all edges, laid over a list from place k on; whether all are finite.
@@ -70,10 +70,11 @@ fn share(
     requires shares_room { SharesRoom columns.now first last scaling.now k }
     ensures { result ≡ weighted (read_from scaling.now k) zero_number (terms_in columns.now values.now first (last - first)) }
 {
-    let mut sum = numbers::zero();
+    let mut sum = C64::zero();
+    // An index: a term's column and its number stand at the same place of two lists, the number as two doubles.
     for q in first..last {
         let v = numbers::get(scaling, k + columns[q]);
-        sum = numbers::add(sum, numbers::mul(numbers::get(values, q), v));
+        sum = sum + numbers::get(values, q) * v;
     }
     sum
 }
@@ -82,40 +83,27 @@ fn share(
 pub fn inverse(share: C64) -> C64
     ensures { result ≡ inverse_of share }
 {
-    if numbers::is_zero(share) {
-        return numbers::one();
+    if share.is_zero() {
+        return C64::one();
     }
-    numbers::real_over(1.0, share)
+    1.0 / share
 }
 
 // The share of coarse edge c: turned row c times the volumes of the fine edges, which stand from place k on. There are m turned rows and n fine edges.
-pub fn share_at(
-    t: Part,
-    tstarts: &[usize],
-    tcolumns: &[usize],
-    tvalues: &[f64],
-    m: usize,
-    n: usize,
-    c: usize,
-    scaling: &[f64],
-    k: usize,
-) -> C64
-    requires stored { Stored tstarts.now t.s tcolumns.now tvalues.now t.k m n }
+pub fn share_at(t: &Rows<'_>, m: usize, n: usize, c: usize, scaling: &[f64], k: usize) -> C64
+    requires stored { Stored t.now.starts.now t.now.part.s t.now.columns.now t.now.values.now t.now.part.k m n }
     requires c_lt_m { (c < m) × (k ≤ 2 ^ 32) × (2 * (k + n) ≤ length scaling.now) }
-    ensures { result ≡ share_of (rows_in t tstarts.now tcolumns.now tvalues.now) (read_from scaling.now k) c }
+    ensures { result ≡ share_of (rows_of t.now) (read_from scaling.now k) c }
 {
-    let first = t.k + tstarts[t.s + c];
-    let last = t.k + tstarts[t.s + c + 1];
-    share(tcolumns, tvalues, first, last, scaling, k)
+    let first = t.part.k + t.starts[t.part.s + c];
+    let last = t.part.k + t.starts[t.part.s + c + 1];
+    share(t.columns, t.values, first, last, scaling, k)
 }
 
 // The inverse share of coarse edge c alone, put into its place behind the volumes, where the inverse shares of m coarse edges begin at place `to`; whether
 // the share and its inverse are finite.
 pub fn inverse_share(
-    t: Part,
-    tstarts: &[usize],
-    tcolumns: &[usize],
-    tvalues: &[f64],
+    t: &Rows<'_>,
     m: usize,
     n: usize,
     scaling: &mut [f64],
@@ -123,39 +111,35 @@ pub fn inverse_share(
     to: usize,
     c: usize,
 ) -> bool
-    requires stored { Stored tstarts.now t.s tcolumns.now tvalues.now t.k m n }
+    requires stored { Stored t.now.starts.now t.now.part.s t.now.columns.now t.now.values.now t.now.part.k m n }
     requires c_lt_m { (c < m) × (k ≤ 2 ^ 32) × (k + n ≤ to) × (2 * (to + m) ≤ length scaling.old) }
-    ensures scaling_after { scaling.new ≡ set_number scaling.old (to + c) (inverse_share (rows_in t tstarts.now tcolumns.now
-        tvalues.now) (read_from scaling.old k) c) }
-    ensures value { result ≡ share_finite (rows_in t tstarts.now tcolumns.now tvalues.now) (read_from scaling.old k) c }
+    ensures scaling_after { scaling.new ≡ set_number scaling.old (to + c) (inverse_share (rows_of t.now) (read_from scaling.old k) c) }
+    ensures value { result ≡ share_finite (rows_of t.now) (read_from scaling.old k) c }
 {
-    let v = share_at(t, tstarts, tcolumns, tvalues, m, n, c, scaling, k);
+    let v = share_at(t, m, n, c, scaling, k);
     let w = inverse(v);
     numbers::put(scaling, to + c, w);
-    numbers::is_finite(v) && numbers::is_finite(w)
+    v.is_finite() && w.is_finite()
 }
 
 // The inverse shares of m coarse edges, laid over the same list from place `to` on, behind the volumes; whether every share and inverse is finite.
 pub fn inverse_shares(
-    t: Part,
-    tstarts: &[usize],
-    tcolumns: &[usize],
-    tvalues: &[f64],
+    t: &Rows<'_>,
     m: usize,
     n: usize,
     scaling: &mut [f64],
     k: usize,
     to: usize,
 ) -> bool
-    requires stored { Stored tstarts.now t.s tcolumns.now tvalues.now t.k m n }
+    requires stored { Stored t.now.starts.now t.now.part.s t.now.columns.now t.now.values.now t.now.part.k m n }
     requires k_bound { (k ≤ 2 ^ 32) × (to ≤ 2 ^ 32) × (k + n ≤ to) × (2 * (to + m) ≤ length scaling.old) }
-    ensures scaling_after { scaling.new ≡ laid_numbers scaling.old to (tabulate (inverse_share (rows_in t tstarts.now tcolumns.now tvalues.now)
+    ensures scaling_after { scaling.new ≡ laid_numbers scaling.old to (tabulate (inverse_share (rows_of t.now)
         (read_from scaling.old k)) m 0) }
-    ensures value { result ≡ shares_finite (rows_in t tstarts.now tcolumns.now tvalues.now) (read_from scaling.old k) m }
+    ensures value { result ≡ shares_finite (rows_of t.now) (read_from scaling.old k) m }
 {
     let mut finite = true;
     for c in 0..m {
-        let one = inverse_share(t, tstarts, tcolumns, tvalues, m, n, scaling, k, to, c);
+        let one = inverse_share(t, m, n, scaling, k, to, c);
         finite = finite && one;
     }
     finite

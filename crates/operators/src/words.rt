@@ -1,7 +1,8 @@
 // Sets of places of an axis as the bits of a word.
 
-ghost use Rattle.std.specs.Prelude.{◌≡◌, ◌<◌, ◌≤◌};
-ghost use Rattle.operators.specs.Bits.{bit_at, mix_of, single, NextPlace};
+ghost use Rattle.std.specs.Prelude.{◌≡◌, ◌-◌, ◌<◌, ◌≤◌};
+ghost use Rattle.std.specs.Iterator.{at_most};
+ghost use Rattle.operators.specs.Bits.{bit_at, mix_of, single, NextPlace, PlacesReady, GivesPlace};
 
 // Is k in the set?
 pub fn bit(w: u64, k: usize) -> bool
@@ -48,4 +49,37 @@ pub fn next_place(w: u64, i: usize) -> usize
         return 64;
     }
     i + u64::trailing_zeros(rest) as usize
+}
+
+// The places of w below n, in rising order: the next one is looked for from place `next` on.
+#[derive(Drop)]
+pub struct Places {
+    pub w: u64,
+    pub n: usize,
+    pub next: usize,
+}
+
+pub fn places_below(w: u64, n: usize) -> Places
+    ensures { result ≡ record { w = w; n = n; next = 0 } }
+{
+    Places { w, n, next: 0 }
+}
+
+impl Iterator for Places {
+    type Item = usize;
+
+    ghost can_next = { PlacesReady };
+
+    ghost next_gives = { GivesPlace };
+
+    ghost remaining = { λ s. at_most (s.n - s.next) };
+
+    fn next(&mut self) -> Option<usize> {
+        let i = next_place(self.w, self.next);
+        if i >= self.n {
+            return None;
+        }
+        self.next = i + 1;
+        Some(i)
+    }
 }

@@ -1,4 +1,3 @@
-pub mod LineLaws
 pub mod MachineLaws
 pub mod Pieces
 pub mod ReadingLaws

@@ -6,9 +6,10 @@ use mathlib.Core.List.{List, [], ◌∷◌, ◌++◌}
 use native.Mathlib.Numerals.{add-one}
 use lib.ListN.{length, get_or, drop, drop_of_length-le}
 use lib.Seq.{drop-cons}
-use Rattle.programs.specs.Reading.{Machine, fed, fed_all}
-use Rattle.programs.proofs.ReadingLaws.{step_over, whole_ended}
-use Rattle.programs.proofs.MachineLaws.{fed_more}
+use Rattle.std.specs.Prelude.{None, Err}
+use Rattle.programs.specs.Reading.{Machine, stepped, whole, fed, fed_all}
+use Rattle.programs.specs.declared.reader.Reader.{Reader}
+use Rattle.store.specs.declared.told.Told.{Told}
 
 -- ---- pieces
 
@@ -33,13 +34,23 @@ fed_pieces_lem limit m (p ∷ ps) = fed_pieces_lem limit (fed_all limit m p) ps 
 
 -- ---- behind a refusal
 
-still : (limit : ℕ) (m : Machine) (b : ℕ) → (m.reader.number ≡ 0 → ⊥) → m ≡ fed limit m b
-still limit m b n = fed_more limit m.reader b m.held m.store (step_over m.reader b n) refl (sym (whole_ended m.reader n))
+module _ (r : Reader) {t : Told} (e : r.answer ≡ Err t) where
+  step_over : (b : ℕ) → stepped r b ≡ r
+  unfolding stepped
+  step_over b = rw e refl
 
-pub fed_refused : (limit : ℕ) (m : Machine) (bs : List ℕ) → (m.reader.number ≡ 0 → ⊥) → fed_all limit m bs ≡ m
+  whole_ended : whole r ≡ None
+  unfolding whole
+  whole_ended = rw e refl
+
+still : (limit : ℕ) (m : Machine) (b : ℕ) {t : Told} → m.reader.answer ≡ Err t → fed limit m b ≡ m
+unfolding fed
+still limit m b e = rw (step_over m.reader e b, whole_ended m.reader e) refl
+
+pub fed_refused : (limit : ℕ) (m : Machine) (bs : List ℕ) {t : Told} → m.reader.answer ≡ Err t → fed_all limit m bs ≡ m
 unfolding fed_all
-fed_refused limit m [] n = refl
-fed_refused limit m (b ∷ bs) n = ap (λ (k : Machine). fed_all limit k bs) (sym (still limit m b n)) ∙ fed_refused limit m bs n
+fed_refused limit m [] e = refl
+fed_refused limit m (b ∷ bs) e = ap (λ (k : Machine). fed_all limit k bs) (still limit m b e) ∙ fed_refused limit m bs e
 
 -- ---- a piece byte by byte: m behind i bytes, from the machine z at its start
 

@@ -1,13 +1,11 @@
 -- What the listing says of a level (docs/SPECIFICATION.md, 13): the three cell counts and the forward weights to the next level, 0 at the last.
 -- Assumes nothing.
-use Rattle.std.specs.Prelude.{ℕ, ◌-◌, ◌*◌, false, cond, List, leb, Float}
+use Rattle.std.specs.Prelude.{ℕ, ◌-◌, ◌*◌, false, cond, List, leb, Float, Some, None}
 use Rattle.lattice.specs.Check.{is_sound}
 use Rattle.store.specs.Setup.{Input, full_of, transfers_of}
 use Rattle.store.specs.Needed.{no_cells, cells_of, needed_verdict}
-use Rattle.store.specs.Handed.{cells_in, weight_terms}
+use Rattle.store.specs.Handed.{Span, cells_in, weight_terms}
 use Rattle.store.specs.declared.handed.Cells.{Cells}
-use Rattle.store.specs.declared.handed.Span.{Span}
-use Rattle.store.specs.declared.handed.Span.TheVariants.{At, Nowhere}
 use Rattle.programs.specs.Records.{input_read}
 use Rattle.programs.specs.declared.lines.LevelLine.{LevelLine}
 use Rattle.programs.specs.declared.records.Seen.{Seen}
@@ -26,9 +24,9 @@ rows_in x y z = cond (leb x 64) (cond (leb y 64) (cond (leb z 64) (3 * (x * y * 
 
 -- the terms from the beginning of one row to the end of another
 abbrev pub terms_between : Span → Span → ℕ
-terms_between (At a b) (At c d) = d - a
-terms_between (At a b) Nowhere = 0
-terms_between Nowhere t = 0
+terms_between (Some (a, b)) (Some (c, d)) = d - a
+terms_between (Some s) None = 0
+terms_between None t = 0
 
 -- the forward weights to the next level, by the starts, where the list has `room` places: from the first row to the last
 unfoldable pub weights_of : Cells → List ℕ → ℕ → ℕ → ℕ

@@ -1,12 +1,51 @@
 -- The records of a file (docs/SPECIFICATION.md, 13): a byte of kind, then a body. In turn: 1 grid; for each axis 2 wall or 3 Bloch; 4 stretch and
 -- 5 permittivity, a record for each number; 6 choice; any number of 7 change; 255 end.
 -- Assumes nothing.
-use Rattle.std.specs.Prelude.{ℕ, ◌+◌, ◌*◌, cond, List, [], eqb, leb, ltb, length, take, drop, Float}
+use Rattle.std.specs.Prelude.{ℕ, ◌+◌, ◌*◌, ◌^◌, ◌<◌, ◌≡◌, Bool, false, cond, Option, Some, None, Result, MatchResult, List, [], eqb, leb, ltb, length, take, drop, Float}
 use Rattle.lattice.specs.declared.grid.Grid3d.{Grid3d}
 use Rattle.lattice.specs.declared.lattice.Lattice.{Lattice}
 use Rattle.store.specs.Setup.{Input, input_of}
 use Rattle.programs.specs.Bytes.{word16, double_at}
+use Rattle.programs.specs.declared.kinds.Kind.{Kind}
+use Rattle.programs.specs.declared.kinds.Kind.TheVariants.{Grid, Wall, Bloch, Stretch, Permittivity, Choice, Change, End}
+use Rattle.programs.specs.declared.kinds.NoKind.{NoKind}
 use Rattle.programs.specs.declared.records.Seen.{Seen}
+use Rattle.programs.specs.declared.records.Stage.{Stage}
+use Rattle.programs.specs.declared.records.Stage.TheVariants.{Start, AxisX, AxisY, AxisZ, Numbers, Changes, Over}
+use Rattle.programs.specs.declared.records.Stretches.{Stretches}
+
+-- ---- kinds
+
+-- the byte that stands for a kind
+abbrev pub byte_of : Kind → ℕ
+byte_of Grid = 1
+byte_of Wall = 2
+byte_of Bloch = 3
+byte_of Stretch = 4
+byte_of Permittivity = 5
+byte_of Choice = 6
+byte_of Change = 7
+byte_of End = 255
+
+-- the kind that a byte stands for; else no kind has it
+abbrev pub Decodes : ℕ → Result Kind NoKind → Type 0
+Decodes b r = MatchResult r (λ k. byte_of k ≡ b) (λ e. (e.0 ≡ b) × ((k : Kind) → byte_of k ≡ b → ⊥))
+
+-- a byte stands for this kind; where there is none, no byte does
+abbrev pub has_byte : Option Kind → ℕ → Bool
+has_byte None b = false
+has_byte (Some k) b = eqb b (byte_of k)
+
+-- the bytes of a body: those of the grid, of the choice, of a change, and of a number; a wall and the end have none
+abbrev pub body_size : Kind → ℕ
+body_size Grid = 46
+body_size Wall = 0
+body_size Bloch = 16
+body_size Stretch = 16
+body_size Permittivity = 16
+body_size Choice = 5
+body_size Change = 20
+body_size End = 0
 
 -- ---- the grid's body: three u16, the cells; then doubles, three steps, k0 and the shift
 
@@ -30,22 +69,46 @@ edge_count b = 3 * cell_count b
 
 -- ---- turns
 
--- the kind with a body that is due; 256, which no byte is, where there is none
-unfoldable pub due_of : Seen → ℕ
-due_of s =
-    cond (eqb s.stage 0) 1
-    (cond (ltb s.stage 4) 3
-    (cond (eqb s.stage 4)
-    (cond (ltb s.count (stretch_count s.grid)) 4 (cond (ltb s.count (stretch_count s.grid + edge_count s.grid)) 5 6))
-    (cond (eqb s.stage 5) 7 256)))
+-- among the numbers: a stretch, a permittivity, and behind them the choice
+abbrev pub number_of : Seen → Kind
+number_of s = cond (ltb s.count (stretch_count s.grid)) Stretch (cond (ltb s.count (stretch_count s.grid + edge_count s.grid)) Permittivity Choice)
+
+-- the kind with a body that is due
+abbrev pub due_at : Stage → Seen → Option Kind
+due_at Start s = Some Grid
+due_at AxisX s = Some Bloch
+due_at AxisY s = Some Bloch
+due_at AxisZ s = Some Bloch
+due_at Numbers s = Some (number_of s)
+due_at Changes s = Some Change
+due_at Over s = None
+
+abbrev pub due_of : Seen → Option Kind
+due_of s = due_at s.stage s
 
 -- the kind without a body that may stand there
-unfoldable pub bare_of : ℕ → ℕ
-bare_of stage = cond (eqb stage 0) 256 (cond (ltb stage 4) 2 (cond (eqb stage 5) 255 256))
+abbrev pub bare_of : Stage → Option Kind
+bare_of Start = None
+bare_of AxisX = Some Wall
+bare_of AxisY = Some Wall
+bare_of AxisZ = Some Wall
+bare_of Numbers = None
+bare_of Changes = Some End
+bare_of Over = None
 
--- the bytes of a body: those of the grid, of the choice, of a change, and of a number
-unfoldable pub body_size : ℕ → ℕ
-body_size kind = cond (eqb kind 1) 46 (cond (eqb kind 6) 5 (cond (eqb kind 7) 20 (cond (eqb kind 256) 0 16)))
+-- the bytes of the body that is due; 0 where none is
+abbrev pub size_by : Option Kind → ℕ
+size_by None = 0
+size_by (Some k) = body_size k
+
+abbrev pub size_due : Seen → ℕ
+size_due s = size_by (due_of s)
+
+-- where a number is due, few are read
+abbrev pub Few : Option Kind → ℕ → Type 0
+Few (Some Stretch) count = count < 2 ^ 51
+Few (Some Permittivity) count = count < 2 ^ 51
+Few k count = Unit {0}
 
 -- ---- the setup's input, from the numbers held: x nodes, x halves, y, z, permittivities, one behind another
 
@@ -60,6 +123,10 @@ input_read s held =
     let z = 2 * word16 s.grid 4 in
     input_of (lattice_of s) (cut_of held 0 x) (cut_of held x x) (cut_of held (2 * x) y) (cut_of held (2 * x + y) y)
     (cut_of held (2 * x + 2 * y) z) (cut_of held (2 * x + 2 * y + z) z) s.choice s.coarsest
+
+-- the input with these stretches
+abbrev pub input_with : Seen → Stretches → Input
+input_with s l = input_of (lattice_of s) l.xn.now l.xh.now l.yn.now l.yh.now l.zn.now l.zh.now s.choice s.coarsest
 
 unfoldable pub given_read : Seen → List Float → List Float
 given_read s held = cut_of held (2 * stretch_count s.grid) (2 * edge_count s.grid)

@@ -1,240 +1,176 @@
 // The reader over its lent lists: the numbers that it holds, and the store.
 
-ghost use Rattle.std.specs.Prelude.{◌≡◌, true, ◌<◌, ◌^◌};
+ghost use Rattle.std.specs.Prelude.{◌≡◌, ◌<◌, ◌^◌};
 ghost use Rattle.numbers.specs.Places.{set_number};
 ghost use Rattle.store.specs.Store.{lent};
-ghost use Rattle.programs.specs.Reading.{machine, setup_run, change_run, ReadIn, closed, whole, fed, fed_all, number_read};
+ghost use Rattle.programs.specs.Lent.{store_of, SameLists};
+ghost use Rattle.programs.specs.Reading.{machine, setup_run, change_run, closed, fed, fed_all, number_read};
 ghost use Rattle.programs.specs.Bytes.{pair_at};
-ghost use Rattle.programs.specs.Records.{due_of};
 
-use crate::reader::Reader;
+use crate::kinds::Kind;
+use crate::reader::{Begun, Reader};
+use crate::records::BODY;
 use crate::{bytes, reader, records};
 use changes::change;
 use store::setup;
+use store::told::Told;
+
+// The twelve lists that a setup fills and a change renews.
+#[derive(Drop)]
+pub struct Lists<'a> {
+    pub ends: &'a mut [usize],
+    pub eps: &'a mut [f64],
+    pub starts: &'a mut [usize],
+    pub columns: &'a mut [usize],
+    pub values: &'a mut [f64],
+    pub tstarts: &'a mut [usize],
+    pub tcolumns: &'a mut [usize],
+    pub tvalues: &'a mut [f64],
+    pub ostarts: &'a mut [usize],
+    pub ocolumns: &'a mut [usize],
+    pub ovalues: &'a mut [f64],
+    pub scaling: &'a mut [f64],
+}
 
 // ---- a record whose body is whole
 
 // The setup. `held`: x nodes, x halves, y, z, permittivities.
-fn setup_run(
-    r: Reader,
-    held: &[f64],
-    ends: &mut [usize],
-    eps: &mut [f64],
-    starts: &mut [usize],
-    columns: &mut [usize],
-    values: &mut [f64],
-    tstarts: &mut [usize],
-    tcolumns: &mut [usize],
-    tvalues: &mut [f64],
-    ostarts: &mut [usize],
-    ocolumns: &mut [usize],
-    ovalues: &mut [f64],
-    scaling: &mut [f64],
-) -> Reader
-    ensures { machine result held.now (lent ends.new eps.new starts.new columns.new
-        values.new tstarts.new tcolumns.new tvalues.new ostarts.new
-        ocolumns.new ovalues.new scaling.new)
-        ≡ setup_run r held.now (lent ends.old eps.old starts.old columns.old
-        values.old tstarts.old tcolumns.old tvalues.old ostarts.old
-        ocolumns.old ovalues.old scaling.old) }
+fn setup_run(r: Reader, o: Begun, held: &[f64], lists: &mut Lists<'_>) -> Reader
+    ensures same { SameLists lists.old lists.new }
+    ensures left { machine result held.now (store_of lists.new) ≡ setup_run r o held.now (store_of lists.old) }
 {
-    if reader::choice_byte(r) > 1 {
-        return reader::out_of_turn(r, r.start);
+    if o.body[0] > 1 {
+        return reader::out_of_turn(r, o.start);
     }
-    let chosen = reader::choice_read(r);
+    let chosen = reader::choice_read(r, o.body);
     let s = chosen.seen;
-    let choice = s.choice;
+    let on_axes = records::stretches_of(s, held);
     let a = setup::setup(
         records::lattice_of(s),
-        records::x_nodes(s, held),
-        records::x_halves(s, held),
-        records::y_nodes(s, held),
-        records::y_halves(s, held),
-        records::z_nodes(s, held),
-        records::z_halves(s, held),
+        on_axes.xn,
+        on_axes.xh,
+        on_axes.yn,
+        on_axes.yh,
+        on_axes.zn,
+        on_axes.zh,
         records::given(s, held),
-        choice,
+        s.choice,
         s.coarsest,
-        ends,
-        eps,
-        starts,
-        columns,
-        values,
-        tstarts,
-        tcolumns,
-        tvalues,
-        ostarts,
-        ocolumns,
-        ovalues,
-        scaling,
+        lists.ends,
+        lists.eps,
+        lists.starts,
+        lists.columns,
+        lists.values,
+        lists.tstarts,
+        lists.tcolumns,
+        lists.tvalues,
+        lists.ostarts,
+        lists.ocolumns,
+        lists.ovalues,
+        lists.scaling,
     );
-    reader::answered(chosen, reader::setup_told(a))
+    reader::answered(chosen, Told::from(a).answer())
 }
 
 // A change.
-fn change_run(
-    r: Reader,
-    held: &[f64],
-    ends: &[usize],
-    eps: &mut [f64],
-    starts: &[usize],
-    columns: &[usize],
-    values: &mut [f64],
-    tstarts: &[usize],
-    tcolumns: &[usize],
-    tvalues: &mut [f64],
-    ostarts: &[usize],
-    ocolumns: &[usize],
-    ovalues: &mut [f64],
-    scaling: &mut [f64],
-) -> Reader
-    ensures { machine result held.now (lent ends.now eps.new starts.now columns.now
-        values.new tstarts.now tcolumns.now tvalues.new ostarts.now
-        ocolumns.now ovalues.new scaling.new)
-        ≡ change_run r held.now (lent ends.now eps.old starts.now columns.now
-        values.old tstarts.now tcolumns.now tvalues.old ostarts.now
-        ocolumns.now ovalues.old scaling.old) }
+fn change_run(r: Reader, b: [u8; BODY], held: &[f64], lists: &mut Lists<'_>) -> Reader
+    ensures same { SameLists lists.old lists.new }
+    ensures left { machine result held.now (store_of lists.new) ≡ change_run r b held.now (store_of lists.old) }
 {
     let s = r.seen;
-    let choice = s.choice;
+    let on_axes = records::stretches_of(s, held);
+    // Those that a change only reads are taken out first: once others are lent, the borrow checker covers no read behind `lists`.
+    let ends = &mut *lists.ends;
+    let starts = &mut *lists.starts;
+    let columns = &mut *lists.columns;
+    let tstarts = &mut *lists.tstarts;
+    let tcolumns = &mut *lists.tcolumns;
+    let ostarts = &mut *lists.ostarts;
+    let ocolumns = &mut *lists.ocolumns;
     let a = change::change(
         records::lattice_of(s),
-        records::x_nodes(s, held),
-        records::x_halves(s, held),
-        records::y_nodes(s, held),
-        records::y_halves(s, held),
-        records::z_nodes(s, held),
-        records::z_halves(s, held),
-        choice,
+        on_axes.xn,
+        on_axes.xh,
+        on_axes.yn,
+        on_axes.yh,
+        on_axes.zn,
+        on_axes.zh,
+        s.choice,
         s.coarsest,
-        reader::edge_of(r),
-        reader::value_of(r),
+        bytes::word32(&b, 0),
+        bytes::pair_at(&b, 4),
         ends,
-        eps,
+        lists.eps,
         starts,
         columns,
-        values,
+        lists.values,
         tstarts,
         tcolumns,
-        tvalues,
+        lists.tvalues,
         ostarts,
         ocolumns,
-        ovalues,
-        scaling,
+        lists.ovalues,
+        lists.scaling,
     );
-    reader::answered(r, reader::change_told(a))
+    reader::answered(r, Told::from(a).answer())
 }
 
 // A stretch or a permittivity.
-fn number_run(r: Reader, held: &mut [f64]) -> Reader
+fn number_run(r: Reader, b: [u8; BODY], held: &mut [f64]) -> Reader
     requires { r.seen.count < 2 ^ 51 }
-    ensures { (result ≡ number_read r) × (held.new ≡ set_number held.old r.seen.count (pair_at r.body 0)) }
+    ensures { (result ≡ number_read r) × (held.new ≡ set_number held.old r.seen.count (pair_at b 0)) }
 {
-    let s = r.seen;
-    let b = r.body;
-    numbers::put(held, s.count, bytes::pair_at(&b, 0));
+    numbers::put(held, r.seen.count, bytes::pair_at(&b, 0));
     reader::number_read(r)
 }
 
-// What a whole record of the input brings about: neither the setup's nor a change's.
-fn read_in(r: Reader, limit: usize, held: &mut [f64]) -> Reader
-    requires { (whole r ≡ true) × ((due_of r.seen ≡ 6 → ⊥) × (due_of r.seen ≡ 7 → ⊥)) }
-    ensures { ReadIn limit r held.old result held.new }
-{
-    let s = r.seen;
-    let kind = records::due(s);
-    if kind == 1 {
-        return reader::grid_read(r, limit, held.len());
-    }
-    if kind == 3 {
-        return reader::axis_read(r);
-    }
-    number_run(r, held)
-}
-
 // What a whole record brings about.
-fn close(
-    r: Reader,
-    limit: usize,
-    held: &mut [f64],
-    ends: &mut [usize],
-    eps: &mut [f64],
-    starts: &mut [usize],
-    columns: &mut [usize],
-    values: &mut [f64],
-    tstarts: &mut [usize],
-    tcolumns: &mut [usize],
-    tvalues: &mut [f64],
-    ostarts: &mut [usize],
-    ocolumns: &mut [usize],
-    ovalues: &mut [f64],
-    scaling: &mut [f64],
-) -> Reader
-    requires { whole r ≡ true }
-    ensures { machine result held.new (lent ends.new eps.new starts.new columns.new
-        values.new tstarts.new tcolumns.new tvalues.new ostarts.new
-        ocolumns.new ovalues.new scaling.new)
-        ≡ closed limit r held.old (lent ends.old eps.old starts.old columns.old
-        values.old tstarts.old tcolumns.old tvalues.old ostarts.old
-        ocolumns.old ovalues.old scaling.old) }
+#[tactic(auto, unfolding(crate::specs::Reading::closed, crate::specs::Reading::number_run))]
+fn close(r: Reader, o: Begun, limit: usize, held: &mut [f64], lists: &mut Lists<'_>) -> Reader
+    ensures same { SameLists lists.old lists.new }
+    ensures left { machine result held.new (store_of lists.new) ≡ closed limit r o held.old (store_of lists.old) }
 {
-    let s = r.seen;
-    let kind = records::due(s);
-    if kind == 6 {
-        return setup_run(
-            r, held, ends, eps, starts, columns, values, tstarts, tcolumns, tvalues, ostarts,
-            ocolumns, ovalues, scaling,
-        );
+    match records::due(r.seen) {
+        Some(Kind::Grid) => reader::grid_read(r, o.body, limit, held.len()),
+        Some(Kind::Bloch) => reader::axis_read(r, o.body),
+        Some(Kind::Stretch | Kind::Permittivity) => number_run(r, o.body, held),
+        Some(Kind::Choice) => setup_run(r, o, held, lists),
+        Some(Kind::Change) => change_run(r, o.body, held, lists),
+        Some(Kind::Wall | Kind::End) | None => r,
     }
-    if kind == 7 {
-        return change_run(
-            r, held, ends, eps, starts, columns, values, tstarts, tcolumns, tvalues, ostarts,
-            ocolumns, ovalues, scaling,
-        );
-    }
-    read_in(r, limit, held)
 }
 
 // One byte.
-fn feed_byte(
-    r: Reader,
-    limit: usize,
-    b: u8,
-    held: &mut [f64],
-    ends: &mut [usize],
-    eps: &mut [f64],
-    starts: &mut [usize],
-    columns: &mut [usize],
-    values: &mut [f64],
-    tstarts: &mut [usize],
-    tcolumns: &mut [usize],
-    tvalues: &mut [f64],
-    ostarts: &mut [usize],
-    ocolumns: &mut [usize],
-    ovalues: &mut [f64],
-    scaling: &mut [f64],
-) -> Reader
-    ensures { machine result held.new (lent ends.new eps.new starts.new columns.new
-        values.new tstarts.new tcolumns.new tvalues.new ostarts.new
-        ocolumns.new ovalues.new scaling.new)
-        ≡ fed limit (machine r held.old (lent ends.old eps.old starts.old columns.old
-        values.old tstarts.old tcolumns.old tvalues.old ostarts.old
-        ocolumns.old ovalues.old scaling.old)) b }
+#[tactic(auto, unfolding(crate::specs::Reading::fed))]
+fn feed_byte(r: Reader, limit: usize, b: u8, held: &mut [f64], lists: &mut Lists<'_>) -> Reader
+    ensures same { SameLists lists.old lists.new }
+    ensures left { machine result held.new (store_of lists.new) ≡ fed limit (machine r held.old (store_of lists.old)) b }
 {
     let u = reader::stepped(r, b);
-    if !reader::whole(u) {
-        return u;
+    match reader::whole(u) {
+        Some(o) => close(u, o, limit, held, lists),
+        None => u,
     }
-    close(
-        u, limit, held, ends, eps, starts, columns, values, tstarts, tcolumns, tvalues, ostarts,
-        ocolumns, ovalues, scaling,
-    )
+}
+
+impl Lists<'_> {
+    // A piece of a file. `limit`: the most cells that are taken. `held`: what holds the numbers of the input between the records. The answer is that of
+    // `reader::finish`, once all pieces are fed.
+    pub fn feed(&mut self, r: Reader, limit: usize, piece: &[u8], held: &mut [f64]) -> Reader
+        ensures same { SameLists self.old self.new }
+        ensures left { machine result held.new (store_of self.new) ≡ fed_all limit (machine r held.old (store_of self.old)) piece.now }
+    {
+        let mut u = r;
+        for &b in piece {
+            u = feed_byte(u, limit, b, held, self);
+        }
+        u
+    }
 }
 
 // ---- the call of a user
 
-// A piece of a file. `limit`: the most cells that are taken. `held`: what holds the numbers of the input between the records. The answer is that of `reader::finish`, once
-// all pieces are fed.
+// The same over twelve lists each by itself, as the calls for C are lent them.
 pub fn feed(
     r: Reader,
     limit: usize,
@@ -260,14 +196,19 @@ pub fn feed(
         values.old tstarts.old tcolumns.old tvalues.old ostarts.old
         ocolumns.old ovalues.old scaling.old)) piece.now }
 {
-    let mut u = r;
-    let mut i = 0;
-    while i < piece.len() {
-        u = feed_byte(
-            u, limit, piece[i], held, ends, eps, starts, columns, values, tstarts, tcolumns,
-            tvalues, ostarts, ocolumns, ovalues, scaling,
-        );
-        i += 1;
-    }
-    u
+    let mut lists = Lists {
+        ends,
+        eps,
+        starts,
+        columns,
+        values,
+        tstarts,
+        tcolumns,
+        tvalues,
+        ostarts,
+        ocolumns,
+        ovalues,
+        scaling,
+    };
+    lists.feed(r, limit, piece, held)
 }

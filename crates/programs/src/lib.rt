@@ -4,6 +4,7 @@
 
 pub mod bytes;
 pub mod feed;
+pub mod kinds;
 pub mod lines;
 pub mod reader;
 pub mod records;

@@ -6,7 +6,7 @@ ghost use Rattle.programs.specs.Lines.{cells_read, rows_in, terms_between, line_
 
 use crate::reader::Reader;
 use crate::records;
-use store::handed::{Cells, Span};
+use store::handed::Cells;
 use store::{handed, needed};
 
 // A line of the listing: the level, its cells along the axes, and the forward weights to the next level, 0 at the last.
@@ -20,72 +20,48 @@ pub struct LevelLine {
 }
 
 // The cells of the levels that a reading set up.
+#[tactic(auto, unfolding(crate::specs::Lines::cells_read))]
 pub fn cells(r: Reader, held: &[f64]) -> Cells
     ensures { result ≡ cells_read r.seen held.now }
 {
     let s = r.seen;
-    let choice = s.choice;
+    let on_axes = records::stretches_of(s, held);
     let found = needed::setup_needs(
         records::lattice_of(s),
-        records::x_nodes(s, held),
-        records::x_halves(s, held),
-        records::y_nodes(s, held),
-        records::y_halves(s, held),
-        records::z_nodes(s, held),
-        records::z_halves(s, held),
-        choice,
+        on_axes.xn,
+        on_axes.xh,
+        on_axes.yn,
+        on_axes.yh,
+        on_axes.zn,
+        on_axes.zh,
+        s.choice,
         s.coarsest,
     );
-    let c = found.cells;
-    c
+    match found {
+        Ok(needed) => needed.cells,
+        Err(_) => needed::no_cells(),
+    }
 }
 
 // The edges of a level of so many cells, none where an axis has more than 64.
+#[tactic(auto, unfolding(crate::specs::Lines::rows_in))]
 fn rows(x: usize, y: usize, z: usize) -> usize
     ensures { result ≡ rows_in x y z }
 {
-    if x > 64 {
-        return 0;
-    }
-    if y > 64 {
-        return 0;
-    }
-    if z > 64 {
+    if x > 64 || y > 64 || z > 64 {
         return 0;
     }
     3 * (x * y * z)
 }
 
-// The row before this count.
-fn last(n: usize) -> usize
-    ensures { result ≡ n - 1 }
-{
-    if n == 0 {
-        return 0;
-    }
-    n - 1
-}
-
-fn less(d: usize, a: usize) -> usize
-    ensures { result ≡ d - a }
-{
-    if d < a {
-        return 0;
-    }
-    d - a
-}
-
 // The terms from the beginning of one row to the end of another.
-fn terms_between(first: Span, last: Span) -> usize
+fn terms_between(first: Option<(usize, usize)>, last: Option<(usize, usize)>) -> usize
     ensures { result ≡ terms_between first last }
 {
-    let Span::At(a, _) = first else {
-        return 0;
-    };
-    let Span::At(_, d) = last else {
-        return 0;
-    };
-    less(d, a)
+    match (first, last) {
+        (Some((a, _)), Some((_, d))) => d.saturating_sub(a),
+        _ => 0,
+    }
 }
 
 // The forward weights of a level's part. `room`: the places of the list that holds them.
@@ -94,11 +70,21 @@ fn weights(c: Cells, starts: &[usize], room: usize, level: usize, rows: usize) -
         (weight_terms c false starts.now room starts.now room level (rows - 1)) }
 {
     let first = handed::weight_terms(c, false, starts, room, starts, room, level, 0);
-    let end = handed::weight_terms(c, false, starts, room, starts, room, level, last(rows));
+    let end = handed::weight_terms(
+        c,
+        false,
+        starts,
+        room,
+        starts,
+        room,
+        level,
+        rows.saturating_sub(1),
+    );
     terms_between(first, end)
 }
 
 // The line of a level.
+#[tactic(auto, unfolding(crate::specs::Lines::weights_of))]
 pub fn line(c: Cells, starts: &[usize], room: usize, level: usize) -> LevelLine
     requires { level < 12 }
     ensures { result ≡ line_of c starts.now room level }

@@ -1,43 +1,34 @@
 // The reader's own state and its steps that touch no lent list.
 
-ghost use Rattle.std.specs.Prelude.{cond, ◌≡◌, eqb, ltb, get_or, ◌+◌, ◌<◌, ◌≤◌, ◌^◌};
+ghost use Rattle.std.specs.Prelude.{◌≡◌, get_or, ◌+◌, ◌<◌, ◌≤◌, ◌^◌};
 ghost use Rattle.lattice.specs.declared.lattice.Edges.TheVariants.{Pml};
-ghost use Rattle.lattice.specs.Check.{verdict_of};
-ghost use Rattle.store.specs.Steps.{answer_of};
-ghost use Rattle.store.specs.ChangeSteps.{changed_of};
 ghost use Rattle.programs.specs.Bytes.{word32, pair_at};
-ghost use Rattle.programs.specs.Reading.{fresh, told as told_with, told_by, between as between_with, answered as answered_with, last_offset, opened as opened_at, axis_seen, end_seen, bare_read, kind_read, taken, stepped, whole, grid_verdict, grid_seen, grid_read, axis_read, number_read, choice_by, choice_read, finished};
-ghost use Rattle.programs.specs.Records.{due_of, body_size};
+ghost use Rattle.programs.specs.Reading.{fresh, told_by, between as between_with, answered as answered_with, out_of_turn as out_of_turn_at, last_offset, opened as opened_at, axis_seen, bare_at, bare_read, kind_read, taken, body_read, stepped, whole, grid_verdict, grid_read, axis_read, number_read, choice_read, finished};
 
-use crate::records::{BODY, Seen};
+use crate::kinds::Kind;
+use crate::records::{BODY, Seen, Stage};
 use crate::{bytes, records};
 use lattice::check;
-use lattice::check::Checked;
 use lattice::lattice::Edges;
 use numbers::C64;
 use store::Choice;
-use store::change::Changed;
-use store::setup::Answer;
+use store::told::Told;
 
-// Where a reading stands. `inside`: in the body of a record, whose first `filled` bytes `body` has. `at`: the offset of the next byte. `start`: the offset of the kind byte
-// of that record. `number` and `place`: those of the refusal that ended the reading; 0 and the level count while there is none.
+// A record whose kind byte, at the offset `start`, is read, and its body's first `filled` bytes.
+#[derive(Clone, Copy)]
+pub struct Begun {
+    pub start: usize,
+    pub filled: usize,
+    pub body: [u8; BODY],
+}
+
+// Where a reading stands. `begun`: the record that it is in. `at`: the offset of the next byte. `answer`: the level count so far, or the refusal that ended the reading.
 #[derive(Clone, Copy)]
 pub struct Reader {
     pub seen: Seen,
-    pub inside: bool,
-    pub filled: usize,
-    pub body: [u8; BODY],
+    pub begun: Option<Begun>,
     pub at: usize,
-    pub start: usize,
-    pub number: usize,
-    pub place: usize,
-}
-
-// What a reading answers: a refusal's number and place, or 0 and the level count.
-#[derive(Clone, Copy)]
-pub struct Told {
-    pub number: usize,
-    pub place: usize,
+    pub answer: Result<usize, Told>,
 }
 
 // Before the first byte.
@@ -46,91 +37,41 @@ pub fn fresh() -> Reader
 {
     Reader {
         seen: records::unseen(),
-        inside: false,
-        filled: 0,
-        body: [0u8; BODY],
+        begun: None,
         at: 0,
-        start: 0,
-        number: 0,
-        place: 0,
-    }
-}
-
-// ---- answers
-
-fn say(number: usize, place: usize) -> Told
-    ensures { result ≡ told_with number place }
-{
-    Told { number, place }
-}
-
-// Number and place of a check's answer.
-pub fn check_told(c: Checked) -> Told
-    ensures { result ≡ told_by (verdict_of c) }
-{
-    match c {
-        Checked::Sound => say(0, 0),
-        Checked::Cells(place) => say(1, place),
-        Checked::Scalar(place) => say(2, place),
-        Checked::Length(place) => say(3, place),
-        Checked::Entry(place) => say(4, place),
-    }
-}
-
-// Number and place of a setup's answer.
-pub fn setup_told(a: Answer) -> Told
-    ensures { result ≡ told_by (answer_of a) }
-{
-    match a {
-        Answer::Levels(n) => say(0, n),
-        Answer::Refused(c) => check_told(c),
-        Answer::TooMany => say(5, 12),
-        Answer::Twice(level) => say(8, level),
-        Answer::Short(list) => say(6, list),
-        Answer::NotFinite(level) => say(7, level),
-    }
-}
-
-// Number and place of a change's answer.
-pub fn change_told(a: Changed) -> Told
-    ensures { result ≡ told_by (changed_of a) }
-{
-    match a {
-        Changed::Answered(b) => setup_told(b),
-        Changed::NoEdge(edge) => say(9, edge),
-        Changed::BadValue(edge) => say(10, edge),
-        Changed::Differs(level) => say(11, level),
+        answer: Ok(0),
     }
 }
 
 // ---- the state
 
 // Between records, with what was read so far.
-pub fn between(r: Reader, s: Seen) -> Reader
-    ensures { result ≡ between_with r s }
+pub fn between(r: Reader, seen: Seen) -> Reader
+    ensures { result ≡ between_with r seen }
 {
-    let mut u = r;
-    u.seen = s;
-    u.inside = false;
-    u
+    Reader {
+        seen,
+        begun: None,
+        ..r
+    }
 }
 
 // Between records, with an answer.
-pub fn answered(r: Reader, t: Told) -> Reader
-    ensures { result ≡ answered_with r t }
+pub fn answered(r: Reader, answer: Result<usize, Told>) -> Reader
+    ensures { result ≡ answered_with r answer }
 {
-    let mut u = r;
-    u.inside = false;
-    u.number = t.number;
-    u.place = t.place;
-    u
+    Reader {
+        begun: None,
+        answer,
+        ..r
+    }
 }
 
 // Refusal 12 at a place.
 pub fn out_of_turn(r: Reader, place: usize) -> Reader
-    ensures { result ≡ answered_with r (told_with 12 place) }
+    ensures { result ≡ out_of_turn_at r place }
 {
-    answered(r, say(12, place))
+    answered(r, Err(Told::new(12, place)))
 }
 
 // ---- a byte of kind
@@ -140,91 +81,80 @@ fn opened(r: Reader) -> Reader
     requires { r.at < last_offset }
     ensures { result ≡ opened_at r }
 {
-    let mut u = r;
-    u.inside = true;
-    u.filled = 0;
-    u.start = r.at;
-    u.at = r.at + 1;
-    u
-}
-
-// The kind of the axis that is next, where it is axis `axis`, and else what stood there.
-fn axis_kind(next: usize, axis: usize, e: Edges, old: Edges) -> Edges
-    ensures { result ≡ cond (eqb next axis) e old }
-{
-    if next == axis {
-        return e;
+    let begun = Begun {
+        start: r.at,
+        filled: 0,
+        body: [0u8; BODY],
+    };
+    Reader {
+        begun: Some(begun),
+        at: r.at + 1,
+        ..r
     }
-    old
 }
 
-// The kind of the next axis.
+// The kind of the next axis, where one is next.
 fn axis_seen(s: Seen, e: Edges) -> Seen
-    requires { s.stage < 4 }
     ensures { result ≡ axis_seen s e }
 {
-    let stage = s.stage;
-    let grid = s.grid;
-    let old_x = s.x;
-    let old_y = s.y;
-    let old_z = s.z;
-    let choice = s.choice;
-    let x = axis_kind(stage, 1, e, old_x);
-    let y = axis_kind(stage, 2, e, old_y);
-    let z = axis_kind(stage, 3, e, old_z);
-    Seen {
-        stage: stage + 1,
-        count: s.count,
-        grid,
-        x,
-        y,
-        z,
-        choice,
-        coarsest: s.coarsest,
+    match s.stage {
+        Stage::AxisX => Seen {
+            stage: Stage::AxisY,
+            x: e,
+            ..s
+        },
+        Stage::AxisY => Seen {
+            stage: Stage::AxisZ,
+            y: e,
+            ..s
+        },
+        Stage::AxisZ => Seen {
+            stage: Stage::Numbers,
+            z: e,
+            ..s
+        },
+        Stage::Start | Stage::Numbers | Stage::Changes | Stage::Over => s,
     }
-}
-
-// The end.
-fn end_seen(s: Seen) -> Seen
-    ensures { result ≡ end_seen s }
-{
-    let mut u = s;
-    u.stage = 6;
-    u
 }
 
 // A wall or the end.
 fn bare_seen(s: Seen) -> Seen
-    ensures { result ≡ cond (ltb s.stage 4) (axis_seen s Pml) (end_seen s) }
+    ensures { result ≡ bare_at s.stage s }
 {
-    if s.stage < 4 {
-        return axis_seen(s, Edges::Pml);
+    match s.stage {
+        Stage::AxisX | Stage::AxisY | Stage::AxisZ => axis_seen(s, Edges::Pml),
+        Stage::Start | Stage::Numbers | Stage::Changes | Stage::Over => Seen {
+            stage: Stage::Over,
+            ..s
+        },
     }
-    end_seen(s)
 }
 
 // A record without a body.
+#[tactic(auto, unfolding(crate::specs::Reading::bare_read))]
 fn bare_read(r: Reader) -> Reader
     requires { r.at < last_offset }
     ensures { result ≡ bare_read r }
 {
-    let s = r.seen;
-    let mut u = between(r, bare_seen(s));
-    u.at = r.at + 1;
-    u
+    Reader {
+        at: r.at + 1,
+        ..between(r, bare_seen(r.seen))
+    }
 }
 
 // A byte of kind: 12 where the record is out of turn.
+#[tactic(auto, using(crate::proofs::ReadingLaws::byte_there, crate::proofs::ReadingLaws::byte_elsewhere, crate::proofs::ReadingLaws::byte_nowhere), unfolding(crate::specs::Reading::kind_read))]
 pub fn kind_read(r: Reader, b: u8) -> Reader
     requires { r.at < last_offset }
     ensures { result ≡ kind_read r b }
 {
-    let kind = bytes::wide(b);
-    let s = r.seen;
-    if kind == records::due(s) {
+    let Ok(kind) = Kind::try_from(b) else {
+        return out_of_turn(r, r.at);
+    };
+    if records::due(r.seen) == Some(kind) {
         return opened(r);
     }
-    if kind == records::bare(s) {
+    if records::bare(r.seen.stage) == Some(kind) {
         return bare_read(r);
     }
     out_of_turn(r, r.at)
@@ -232,66 +162,69 @@ pub fn kind_read(r: Reader, b: u8) -> Reader
 
 // ---- a byte of a body
 
-pub fn taken(r: Reader, b: u8) -> Reader
-    requires { (r.filled < 46) × (r.at < last_offset) }
-    ensures { result ≡ taken r b }
+#[tactic(auto, unfolding(crate::specs::Reading::taken))]
+pub fn taken(r: Reader, o: Begun, b: u8) -> Reader
+    requires { (o.filled < 46) × (r.at < last_offset) }
+    ensures { result ≡ taken r o b }
 {
-    let mut body = r.body;
-    let filled = r.filled;
-    body[filled] = b;
-    let mut u = r;
-    u.inside = true;
-    u.filled = filled + 1;
-    u.body = body;
-    u.at = r.at + 1;
-    u
+    let mut body = o.body;
+    body[o.filled] = b;
+    let begun = Begun {
+        filled: o.filled + 1,
+        body,
+        ..o
+    };
+    Reader {
+        begun: Some(begun),
+        at: r.at + 1,
+        ..r
+    }
+}
+
+// The byte goes to the body, if it has room.
+#[tactic(auto, unfolding(crate::specs::Reading::body_read))]
+fn body_read(r: Reader, o: Begun, b: u8) -> Reader
+    requires { r.at < last_offset }
+    ensures { result ≡ body_read r o b }
+{
+    if o.filled < records::size_due(r.seen) {
+        return taken(r, o, b);
+    }
+    out_of_turn(r, o.start)
 }
 
 // ---- any byte
 
-// The byte goes to the body, if it has room.
-fn body_read(r: Reader, b: u8) -> Reader
-    requires { r.at < last_offset }
-    ensures { result ≡ cond (ltb r.filled (body_size (due_of r.seen))) (taken r b) (answered_with r (told_with 12 r.start)) }
-{
-    let s = r.seen;
-    if r.filled < records::body_size(records::due(s)) {
-        return taken(r, b);
-    }
-    out_of_turn(r, r.start)
-}
-
 // One byte, without what a whole record brings about.
+#[tactic(auto, unfolding(crate::specs::Reading::stepped))]
 pub fn stepped(r: Reader, b: u8) -> Reader
     ensures { result ≡ stepped r b }
 {
-    if r.number != 0 {
+    if r.answer.is_err() {
         return r;
     }
     if r.at == usize::MAX {
         return out_of_turn(r, r.at);
     }
-    if r.inside {
-        return body_read(r, b);
+    match r.begun {
+        Some(o) => body_read(r, o, b),
+        None => kind_read(r, b),
     }
-    kind_read(r, b)
 }
 
-// Whether the body of the record is whole.
-pub fn whole(r: Reader) -> bool
+// The body of the record, where it is whole.
+#[tactic(auto, unfolding(crate::specs::Reading::whole))]
+pub fn whole(r: Reader) -> Option<Begun>
     ensures { result ≡ whole r }
 {
-    let s = r.seen;
-    if r.number != 0 {
-        return false;
+    if r.answer.is_err() {
+        return None;
     }
-    if !r.inside {
-        return false;
+    let o = r.begun?;
+    if o.filled == records::size_due(r.seen) {
+        return Some(o);
     }
-    if r.filled == 0 {
-        return false;
-    }
-    r.filled == records::body_size(records::due(s))
+    None
 }
 
 // ---- a record whose body is whole
@@ -301,133 +234,80 @@ fn grid_told(b: [u8; BODY], limit: usize, room: usize) -> Told
     ensures { result ≡ told_by (grid_verdict limit room b) }
 {
     let g = records::grid_of(b);
-    let c = check::check_grid(g);
-    if !check::is_sound(c) {
-        return check_told(c);
+    if let Err(c) = check::check_grid(g) {
+        return Told::from(c);
     }
     let cells = records::cell_count(b);
     if limit < cells {
-        return say(13, cells);
+        return Told::new(13, cells);
     }
     if room < 2 * (records::stretch_count(b) + records::edge_count(b)) {
-        return say(13, cells);
+        return Told::new(13, cells);
     }
-    say(0, 0)
-}
-
-fn grid_seen(s: Seen, b: [u8; BODY]) -> Seen
-    ensures { result ≡ grid_seen s b }
-{
-    let mut u = s;
-    u.stage = 1;
-    u.grid = b;
-    u
+    Told::new(0, 0)
 }
 
 // The grid.
-pub fn grid_read(r: Reader, limit: usize, room: usize) -> Reader
-    ensures { result ≡ grid_read limit room r }
+#[tactic(auto, unfolding(crate::specs::Reading::grid_read))]
+pub fn grid_read(r: Reader, b: [u8; BODY], limit: usize, room: usize) -> Reader
+    ensures { result ≡ grid_read limit room r b }
 {
-    let s = r.seen;
-    let b = r.body;
-    let t = grid_told(b, limit, room);
-    answered(between(r, grid_seen(s, b)), t)
+    let seen = Seen {
+        stage: Stage::AxisX,
+        grid: b,
+        ..r.seen
+    };
+    answered(between(r, seen), grid_told(b, limit, room).answer())
 }
 
 // Bloch.
-pub fn axis_read(r: Reader) -> Reader
-    requires { r.seen.stage < 4 }
-    ensures { result ≡ axis_read r }
+#[tactic(auto, unfolding(crate::specs::Reading::axis_read))]
+pub fn axis_read(r: Reader, b: [u8; BODY]) -> Reader
+    ensures { result ≡ axis_read r b }
 {
-    let s = r.seen;
-    let b = r.body;
-    let p = bytes::pair_at(&b, 0);
-    between(r, axis_seen(s, Edges::Bloch(p)))
+    between(r, axis_seen(r.seen, Edges::Bloch(bytes::pair_at(&b, 0))))
 }
 
 // A stretch or a permittivity.
+#[tactic(auto, unfolding(crate::specs::Reading::number_read))]
 pub fn number_read(r: Reader) -> Reader
     requires { r.seen.count < 2 ^ 51 }
     ensures { result ≡ number_read r }
 {
-    let mut s = r.seen;
-    s.count = s.count + 1;
-    between(r, s)
-}
-
-// The byte of the choice.
-pub fn choice_byte(r: Reader) -> usize
-    ensures { result ≡ get_or r.body 0 0 }
-{
-    let b = r.body;
-    bytes::wide(b[0])
-}
-
-// A change's edge.
-pub fn edge_of(r: Reader) -> usize
-    ensures { result ≡ word32 r.body 0 }
-{
-    let b = r.body;
-    bytes::word32(&b, 0)
-}
-
-// A change's value.
-pub fn value_of(r: Reader) -> C64
-    ensures { result ≡ pair_at r.body 4 }
-{
-    let b = r.body;
-    bytes::pair_at(&b, 4)
-}
-
-fn choice_by(n: usize) -> Choice
-    ensures { result ≡ choice_by n }
-{
-    if n == 0 {
-        return Choice::Galerkin;
-    }
-    Choice::Rediscretized
+    let seen = Seen {
+        count: r.seen.count + 1,
+        ..r.seen
+    };
+    between(r, seen)
 }
 
 // The choice and `coarsest`.
-pub fn choice_read(r: Reader) -> Reader
-    ensures { result ≡ choice_read r }
+#[tactic(auto, unfolding(crate::specs::Reading::choice_read))]
+pub fn choice_read(r: Reader, b: [u8; BODY]) -> Reader
+    ensures { result ≡ choice_read r b }
 {
-    let s = r.seen;
-    let b = r.body;
-    let grid = s.grid;
-    let x = s.x;
-    let y = s.y;
-    let z = s.z;
-    let choice = choice_by(choice_byte(r));
-    let coarsest = bytes::word32(&b, 1);
-    let chosen = Seen {
-        stage: 5,
-        count: s.count,
-        grid,
-        x,
-        y,
-        z,
-        choice,
-        coarsest,
+    let seen = Seen {
+        stage: Stage::Changes,
+        choice: Choice::from(usize::from(b[0])),
+        coarsest: bytes::word32(&b, 1),
+        ..r.seen
     };
-    between(r, chosen)
+    between(r, seen)
 }
 
 // ---- the end of the file
 
-// What the reading answers.
-pub fn finish(r: Reader) -> Told
+// What the reading answers: the level count, or the refusal that ended it.
+#[tactic(auto, unfolding(crate::specs::Reading::finished))]
+pub fn finish(r: Reader) -> Result<usize, Told>
     ensures { result ≡ finished r }
 {
-    let s = r.seen;
-    if r.number != 0 {
-        return say(r.number, r.place);
+    let levels = r.answer?;
+    if r.seen.stage == Stage::Over {
+        return Ok(levels);
     }
-    if s.stage == 6 {
-        return say(0, r.place);
+    match r.begun {
+        Some(o) => Err(Told::new(12, o.start)),
+        None => Err(Told::new(12, r.at)),
     }
-    if r.inside {
-        return say(12, r.start);
-    }
-    say(12, r.at)
 }

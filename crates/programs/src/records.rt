@@ -1,10 +1,11 @@
-// The records of a file: which one is due, how long it is, and the setup's input that they give.
+// The records of a file: which one is due, and the setup's input that they give.
 
 ghost use Rattle.std.specs.Prelude.{◌≡◌, ◌+◌, ◌*◌, ◌<◌, ◌≤◌, ◌^◌};
 ghost use Rattle.programs.specs.Reading.{unseen};
-ghost use Rattle.programs.specs.Records.{grid_of, lattice_of, stretch_count, cell_count, edge_count, due_of, bare_of, body_size, cut_of, input_read, given_read};
+ghost use Rattle.programs.specs.Records.{grid_of, lattice_of, stretch_count, cell_count, edge_count, number_of, due_of, bare_of, size_due, Few, cut_of, input_read, input_with, given_read};
 
 use crate::bytes;
+use crate::kinds::Kind;
 use lattice::grid::Grid3d;
 use lattice::lattice::{Edges, Lattice};
 use store::Choice;
@@ -12,11 +13,22 @@ use store::Choice;
 // The bytes of the longest body, the grid's.
 pub const BODY: usize = 46;
 
-// What the records so far have said. `stage`: 0 before the grid, 1 to 3 before an axis's kind, 4 in the numbers and before the choice, 5 among the changes, 6 behind
-// the end. `count`: the numbers read. `grid`: the grid's body.
+// What comes next: the grid, an axis's kind, the numbers and then the choice, changes and then the end, nothing.
+#[derive(Clone, Copy, PartialEq, Eq)]
+pub enum Stage {
+    Start,
+    AxisX,
+    AxisY,
+    AxisZ,
+    Numbers,
+    Changes,
+    Over,
+}
+
+// What the records so far have said. `count`: the numbers read. `grid`: the grid's body.
 #[derive(Clone, Copy)]
 pub struct Seen {
-    pub stage: usize,
+    pub stage: Stage,
     pub count: usize,
     pub grid: [u8; BODY],
     pub x: Edges,
@@ -31,7 +43,7 @@ pub fn unseen() -> Seen
     ensures { result ≡ unseen }
 {
     Seen {
-        stage: 0,
+        stage: Stage::Start,
         count: 0,
         grid: [0u8; BODY],
         x: Edges::Pml,
@@ -45,6 +57,7 @@ pub fn unseen() -> Seen
 // ---- the grid
 
 // The grid of a grid's body.
+#[tactic(auto, unfolding(crate::specs::Records::grid_of))]
 pub fn grid_of(b: [u8; BODY]) -> Grid3d
     ensures { (result ≡ grid_of b) × ((result.nx < 65536) × ((result.ny < 65536) × (result.nz < 65536))) }
 {
@@ -59,26 +72,24 @@ pub fn grid_of(b: [u8; BODY]) -> Grid3d
 }
 
 // The lattice record that the grid and the axes' kinds give.
+#[tactic(auto, unfolding(crate::specs::Records::lattice_of))]
 pub fn lattice_of(s: Seen) -> Lattice
     ensures { result ≡ lattice_of s }
 {
-    let b = s.grid;
-    let x = s.x;
-    let y = s.y;
-    let z = s.z;
     Lattice {
-        grid: grid_of(b),
-        x,
-        y,
-        z,
-        k0: bytes::double_at(&b, 30),
-        shift: bytes::double_at(&b, 38),
+        grid: grid_of(s.grid),
+        x: s.x,
+        y: s.y,
+        z: s.z,
+        k0: bytes::double_at(&s.grid, 30),
+        shift: bytes::double_at(&s.grid, 38),
     }
 }
 
 // ---- counts of numbers
 
 // The stretches of a grid: two lists an axis.
+#[tactic(auto, unfolding(crate::specs::Records::stretch_count))]
 pub fn stretch_count(b: [u8; BODY]) -> usize
     ensures { (result ≡ stretch_count b) × (result < 2 ^ 20) }
 {
@@ -86,6 +97,7 @@ pub fn stretch_count(b: [u8; BODY]) -> usize
 }
 
 // The cells of a grid.
+#[tactic(auto, unfolding(crate::specs::Records::cell_count))]
 pub fn cell_count(b: [u8; BODY]) -> usize
     ensures { (result ≡ cell_count b) × (result < 2 ^ 48) }
 {
@@ -93,6 +105,7 @@ pub fn cell_count(b: [u8; BODY]) -> usize
 }
 
 // The permittivities of a grid: three a cell.
+#[tactic(auto, unfolding(crate::specs::Records::edge_count))]
 pub fn edge_count(b: [u8; BODY]) -> usize
     ensures { (result ≡ edge_count b) × (result < 2 ^ 50) }
 {
@@ -101,74 +114,52 @@ pub fn edge_count(b: [u8; BODY]) -> usize
 
 // ---- turns
 
-// The kind that is due among the numbers: 4 a stretch, 5 a permittivity, and behind them 6 the choice.
-fn number_due(s: Seen) -> usize
-    requires { s.stage ≡ 4 }
-    ensures { (result ≡ due_of s) × (result < 6 → s.count < 2 ^ 51) }
+// The kind that is due among the numbers: a stretch, a permittivity, and behind them the choice. Before the choice the count is small.
+fn number_due(s: Seen) -> Kind
+    ensures due { result ≡ number_of s }
+    ensures few { Few (Some result) s.count }
 {
-    let b = s.grid;
-    let stretches = stretch_count(b);
+    let stretches = stretch_count(s.grid);
     if s.count < stretches {
-        return 4;
+        return Kind::Stretch;
     }
-    if s.count < stretches + edge_count(b) {
-        return 5;
+    if s.count < stretches + edge_count(s.grid) {
+        return Kind::Permittivity;
     }
-    6
+    Kind::Choice
 }
 
-// The kind of the record with a body that is due: 1 the grid, 3 Bloch, 4, 5, 6, 7 a change; 256, no byte, where there is none. Before 6 the count is small.
-pub fn due(s: Seen) -> usize
-    ensures { (result ≡ due_of s) × (3 < result → result < 6 → s.count < 2 ^ 51) }
+// The kind of the record with a body that is due. Where it is a number, the count is small.
+pub fn due(s: Seen) -> Option<Kind>
+    ensures due { result ≡ due_of s }
+    ensures few { Few result s.count }
 {
-    if s.stage == 0 {
-        return 1;
+    match s.stage {
+        Stage::Start => Some(Kind::Grid),
+        Stage::AxisX | Stage::AxisY | Stage::AxisZ => Some(Kind::Bloch),
+        Stage::Numbers => Some(number_due(s)),
+        Stage::Changes => Some(Kind::Change),
+        Stage::Over => None,
     }
-    if s.stage < 4 {
-        return 3;
-    }
-    if s.stage == 4 {
-        return number_due(s);
-    }
-    if s.stage == 5 {
-        return 7;
-    }
-    256
 }
 
-// The kind of the record without a body that may stand in its place: 2 a wall, 255 the end; 256 where there is none.
-pub fn bare(s: Seen) -> usize
-    ensures { result ≡ bare_of s.stage }
+// The kind of the record without a body that may stand in its place.
+pub fn bare(stage: Stage) -> Option<Kind>
+    ensures { result ≡ bare_of stage }
 {
-    if s.stage == 0 {
-        return 256;
+    match stage {
+        Stage::AxisX | Stage::AxisY | Stage::AxisZ => Some(Kind::Wall),
+        Stage::Changes => Some(Kind::End),
+        Stage::Start | Stage::Numbers | Stage::Over => None,
     }
-    if s.stage < 4 {
-        return 2;
-    }
-    if s.stage == 5 {
-        return 255;
-    }
-    256
 }
 
-// How many bytes the body of a kind has.
-pub fn body_size(kind: usize) -> usize
-    ensures { (result ≡ body_size kind) × (result ≤ 46) }
+// The bytes of the body that is due; 0 where none is.
+pub fn size_due(s: Seen) -> usize
+    ensures size { result ≡ size_due s }
+    ensures most { result ≤ 46 }
 {
-    if kind == 1 {
-        return 46;
-    }
-    if kind == 6 {
-        return 5;
-    }
-    if kind == 7 {
-        return 20;
-    }
-    if kind == 256 {
-        return 0;
-    }
-    16
+    due(s).map_or(0, Kind::body_size)
 }
 
 // ---- the lists of the input
@@ -177,74 +168,41 @@ pub fn body_size(kind: usize) -> usize
 pub fn cut(xs: &[f64], from: usize, n: usize) -> &[f64]
     ensures { result.now ≡ cut_of xs.now from n }
 {
-    if from > xs.len() {
-        return &xs[0..0];
+    xs.get(from..from.saturating_add(n)).unwrap_or(&[])
+}
+
+// The stretches on each axis, at nodes and at halves, out of the numbers held.
+#[derive(Clone, Copy)]
+pub struct Stretches<'a> {
+    pub xn: &'a [f64],
+    pub xh: &'a [f64],
+    pub yn: &'a [f64],
+    pub yh: &'a [f64],
+    pub zn: &'a [f64],
+    pub zh: &'a [f64],
+}
+
+#[tactic(auto, unfolding(crate::specs::Records::input_read))]
+pub fn stretches_of(s: Seen, held: &[f64]) -> Stretches<'_>
+    ensures { input_with s result ≡ input_read s held.now }
+{
+    let x = 2 * bytes::word16(&s.grid, 0);
+    let y = 2 * bytes::word16(&s.grid, 2);
+    let z = 2 * bytes::word16(&s.grid, 4);
+    Stretches {
+        xn: cut(held, 0, x),
+        xh: cut(held, x, x),
+        yn: cut(held, 2 * x, y),
+        yh: cut(held, 2 * x + y, y),
+        zn: cut(held, 2 * x + 2 * y, z),
+        zh: cut(held, 2 * x + 2 * y + z, z),
     }
-    if n > xs.len() - from {
-        return &xs[0..0];
-    }
-    &xs[from..from + n]
-}
-
-// The stretches on each axis, nodes then halves, out of the numbers held.
-pub fn x_nodes(s: Seen, held: &[f64]) -> &[f64]
-    ensures { result.now ≡ (input_read s held.now).xn }
-{
-    let b = s.grid;
-    let x = 2 * bytes::word16(&b, 0);
-    cut(held, 0, x)
-}
-
-pub fn x_halves(s: Seen, held: &[f64]) -> &[f64]
-    ensures { result.now ≡ (input_read s held.now).xh }
-{
-    let b = s.grid;
-    let x = 2 * bytes::word16(&b, 0);
-    cut(held, x, x)
-}
-
-pub fn y_nodes(s: Seen, held: &[f64]) -> &[f64]
-    ensures { result.now ≡ (input_read s held.now).yn }
-{
-    let b = s.grid;
-    let x = 2 * bytes::word16(&b, 0);
-    let y = 2 * bytes::word16(&b, 2);
-    cut(held, 2 * x, y)
-}
-
-pub fn y_halves(s: Seen, held: &[f64]) -> &[f64]
-    ensures { result.now ≡ (input_read s held.now).yh }
-{
-    let b = s.grid;
-    let x = 2 * bytes::word16(&b, 0);
-    let y = 2 * bytes::word16(&b, 2);
-    cut(held, 2 * x + y, y)
-}
-
-pub fn z_nodes(s: Seen, held: &[f64]) -> &[f64]
-    ensures { result.now ≡ (input_read s held.now).zn }
-{
-    let b = s.grid;
-    let x = 2 * bytes::word16(&b, 0);
-    let y = 2 * bytes::word16(&b, 2);
-    let z = 2 * bytes::word16(&b, 4);
-    cut(held, 2 * x + 2 * y, z)
-}
-
-pub fn z_halves(s: Seen, held: &[f64]) -> &[f64]
-    ensures { result.now ≡ (input_read s held.now).zh }
-{
-    let b = s.grid;
-    let x = 2 * bytes::word16(&b, 0);
-    let y = 2 * bytes::word16(&b, 2);
-    let z = 2 * bytes::word16(&b, 4);
-    cut(held, 2 * x + 2 * y + z, z)
 }
 
 // The permittivities.
+#[tactic(auto, unfolding(crate::specs::Records::given_read))]
 pub fn given(s: Seen, held: &[f64]) -> &[f64]
     ensures { result.now ≡ given_read s held.now }
 {
-    let b = s.grid;
-    cut(held, 2 * stretch_count(b), 2 * edge_count(b))
+    cut(held, 2 * stretch_count(s.grid), 2 * edge_count(s.grid))
 }

@@ -1,7 +1,7 @@
 // Lists of flags, one for each row of one kind on one level, raised where a row reads what is flagged.
 
-ghost use Rattle.std.specs.Prelude.{◌≡◌, false, ◌||◌, suc, ◌+◌, ◌*◌, ◌<◌, ◌≤◌, length, get_or, set};
-ghost use Rattle.numbers.specs.Lists.{tabulate, Marked};
+ghost use Rattle.std.specs.Prelude.{◌≡◌, ℕ, List, Bool, false, ◌||◌, suc, ◌+◌, ◌*◌, ◌<◌, ◌≤◌, length, get_or, set};
+ghost use Rattle.numbers.specs.Lists.{any_flag, Marked};
 ghost use Rattle.lattice.specs.Grid.{Limits, unknowns_of};
 ghost use Rattle.lattice.specs.Lattice.{full_lattice};
 ghost use Rattle.weights.specs.CoarseEps.{eps_reads};
@@ -14,6 +14,7 @@ ghost use Rattle.operators.specs.Stencil.{stencil_reads};
 ghost use Rattle.store.specs.FillSteps.{Relations};
 ghost use Rattle.store.specs.Layout.{operator_cols};
 ghost use Rattle.store.specs.Phases.{HasLines};
+ghost use Rattle.store.specs.Work.{RowsAt};
 ghost use Rattle.store.specs.ReachSteps.{Raised, RowsThere, RaisedBy};
 ghost use Rattle.store.specs.declared.Choice.TheVariants.{Galerkin};
 
@@ -39,19 +40,18 @@ pub fn raise(out: &mut [bool], r: usize, b: bool)
     out[r] = true;
 }
 
-// ---- the permittivities of a coarse level
-
-fn eps_rows(gf: Grid3d, gc: Grid3d, nn: &[usize], flags: &[bool], out: &mut [bool])
-    requires limits { (Limits gf) × (Limits gc) }
-    requires nested_in { NestedIn gf gc nn.now }
-    requires gc_in_bounds { unknowns_of gc ≤ length out.old }
-    ensures { Raised (unknowns_of gc) flags.now (eps_reads_in gf gc nn.now) out.old out.new }
+// Those of the first n flags are raised that `reads` says, and all else is left.
+fn raise_each<F: Fn(usize) -> bool>(n: usize, out: &mut [bool], reads: F)
+    requires n_in_bounds { n ≤ length out.old }
+    requires calls { (r : ℕ) → r < n → F.pre reads r }
+    ensures { (flags : List Bool) (cols : ℕ → List ℕ) → ((r : ℕ) (b : Bool) → r < n → F.post reads r b → b ≡ any_flag flags (cols r)) → Raised n flags cols out.old out.new }
 {
-    let n = grid::unknowns(gc);
     for r in 0..n {
-        raise(out, r, eps::eps_flagged(gf, gc, nn, flags, r));
+        raise(out, r, reads(r));
     }
 }
+
+// ---- the permittivities of a coarse level
 
 // The permittivities of level `level` + 1 that read a flagged one of level `level`.
 pub fn eps_flags(
@@ -75,35 +75,11 @@ pub fn eps_flags(
     let gf = tables::grid_of(l.grid, fine);
     let gc = tables::grid_of(l.grid, coarse);
     let nn = tables::nodes(l, st, fine, coarse);
-    eps_rows(gf, gc, &nn, flags, out);
+    let n = grid::unknowns(gc);
+    raise_each(n, out, |r: usize| eps::eps_flagged(gf, gc, &nn, flags, r));
 }
 
 // ---- the averaged permittivities of a coarse level
-
-fn averaged_rows(
-    l: Lattice,
-    st: &[f64],
-    fine: Three,
-    coarse: Three,
-    nn: &[usize],
-    n: usize,
-    flags: &[bool],
-    out: &mut [bool],
-)
-    requires paired_lines { PairedLines (full_lattice l st.now) fine coarse }
-    requires nn_value { nn.now ≡ tabulate (node_no (two_of (full_lattice l st.now) fine coarse)) node_count 0 }
-    requires coarse_in_bounds { unknowns_of (fine_grid (two_of (full_lattice l st.now) fine coarse)) ≤ length flags.now }
-    requires n_value { (n ≡ unknowns_of (coarse_grid (two_of (full_lattice l st.now) fine coarse))) × (n ≤ length out.old) }
-    ensures { Raised n flags.now (averaged_reads (two_of (full_lattice l st.now) fine coarse)) out.old out.new }
-{
-    for r in 0..n {
-        raise(
-            out,
-            r,
-            averaged::averaged_flagged(l, st, fine, coarse, nn, flags, r),
-        );
-    }
-}
 
 // The averaged permittivities of level `level` + 1 that read a flagged one of level `level`.
 pub fn averaged_flags(
@@ -126,7 +102,9 @@ pub fn averaged_flags(
     let coarse = lines::three(lines, level + 1);
     let n = lines::level_edges(l, st, lines, m, level + 1);
     let nn = tables::nodes(l, st, fine, coarse);
-    averaged_rows(l, st, fine, coarse, &nn, n, flags, out);
+    raise_each(n, out, |r: usize| {
+        averaged::averaged_flagged(l, st, fine, coarse, &nn, flags, r)
+    });
 }
 
 // ---- rows of a lattice's operator
@@ -151,6 +129,7 @@ pub fn lattice_flags(l: Lattice, st: &[f64], flags: &[bool], out: &mut [bool])
     ensures { Raised (unknowns_of l.grid) flags.now (stencil_reads (full_lattice l st.now)) out.old out.new }
 {
     let n = grid::unknowns(l.grid);
+    // A loop here and one in `first_rows`: a function of both would say in its clauses what a call does to the list, which is longer than the loops.
     for c in 0..n {
         lattice_row(l, st, flags, c, out);
     }
@@ -181,6 +160,25 @@ pub fn rediscretized_flags(
 
 // ---- rows by their columns
 
+// Whether row r, of n that stand in two lists from part o on, names a flagged column.
+fn stored_flag(
+    o: Part,
+    n: usize,
+    starts: &[usize],
+    columns: &[usize],
+    flags: &[bool],
+    r: usize,
+) -> bool
+    requires rows_there { RowsThere n o starts.now columns.now }
+    requires r_lt_n { r < n }
+    ensures { (cols : ℕ → List ℕ) → RowsAt cols n o starts.now columns.now → result ≡ any_flag flags.now (cols r) }
+{
+    let s = o.s;
+    let a = starts[s + r];
+    let e = starts[s + r + 1];
+    lists::any_flag(flags, columns, o.k + a, e - a)
+}
+
 // The rows that stand in two lists from part o on and name a flagged column.
 pub fn stored_flags(
     o: Part,
@@ -194,12 +192,9 @@ pub fn stored_flags(
     requires n_in_bounds { n ≤ length out.old }
     ensures { RaisedBy n o starts.now columns.now flags.now out.old out.new }
 {
-    let s = o.s;
-    for r in 0..n {
-        let a = starts[s + r];
-        let e = starts[s + r + 1];
-        raise(out, r, lists::any_flag(flags, columns, o.k + a, e - a));
-    }
+    raise_each(n, out, |r: usize| {
+        stored_flag(o, n, starts, columns, flags, r)
+    });
 }
 
 // The columns of row c of level 0's operator, if c is flagged. u has the relations of level 0.

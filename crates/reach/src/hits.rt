@@ -40,55 +40,48 @@ fn raise_bits(flags: &mut [u64], base: usize, n: usize, list: &[bool]) -> usize
     requires { (n ≤ length list.now) × (base ≤ 2 ^ 40) × (base + n ≤ 64 * length flags.old) }
     ensures { BitsRaised base n list.now flags.old flags.new result }
 {
-    for r in 0..n {
-        raise_bit(flags, base + r, list[r]);
+    for (r, &b) in list[..n].iter().enumerate() {
+        raise_bit(flags, base + r, b);
     }
     base + n
 }
 
 // The bits of the permittivities of a level of k edges, of its averaged ones, `only` of them, and of the n forward and k turned rows, from `base` on. The place
 // behind them. `requires`: flags for all edges, and room.
-fn transfer_bits(only: usize, n: usize, k: usize, base: usize, h: Hits, flags: &mut [u64]) -> usize
-    requires hits_long { HitsLong h }
+fn transfer_bits(only: usize, n: usize, k: usize, base: usize, h: &Hits, flags: &mut [u64]) -> usize
+    requires hits_long { HitsLong h.now }
     requires n_bound { (n ≤ 12288) × (k ≤ 12288) × (only ≤ 12288) × (base ≤ 2 ^ 32) × (base + 49152 ≤ 64 * length flags.old) }
-    ensures { TransferBits base k only n h flags.old flags.new result }
+    ensures { TransferBits base k only n h.now flags.old flags.new result }
 {
-    let eps = h.eps;
-    let averaged = h.averaged;
-    let forward = h.forward;
-    let turned = h.turned;
-    let mut at = raise_bits(flags, base, k, &eps);
-    at = raise_bits(flags, at, only, &averaged);
-    at = raise_bits(flags, at, n, &forward);
-    raise_bits(flags, at, k, &turned)
+    let mut at = raise_bits(flags, base, k, &h.eps);
+    at = raise_bits(flags, at, only, &h.averaged);
+    at = raise_bits(flags, at, n, &h.forward);
+    raise_bits(flags, at, k, &h.turned)
 }
 
 // The bits of a level of k edges whose finer one has n, from `base` on: no volume is ever reached, a share where its turned row is. The place behind them.
-fn level_bits(choice: Choice, n: usize, k: usize, base: usize, h: Hits, flags: &mut [u64]) -> usize
-    requires hits_long { HitsLong h }
+fn level_bits(choice: Choice, n: usize, k: usize, base: usize, h: &Hits, flags: &mut [u64]) -> usize
+    requires hits_long { HitsLong h.now }
     requires n_bound { (n ≤ 12288) × (k ≤ 12288) × (base ≤ 2 ^ 32) × (base + 86016 ≤ 64 * length flags.old) }
-    ensures { LevelBits choice n k base h flags.old flags.new result }
+    ensures { LevelBits choice n k base h.now flags.old flags.new result }
 {
     let only = needs::only(choice, k);
     let volumes = needs::only(choice, n);
-    let turned = h.turned;
-    let operator = h.operator;
     let mut at = transfer_bits(only, n, k, base, h, flags);
-    at = raise_bits(flags, at + volumes, only, &turned);
-    raise_bits(flags, at, k, &operator)
+    at = raise_bits(flags, at + volumes, only, &h.turned);
+    raise_bits(flags, at, k, &h.operator)
 }
 
 // The bits of part 0, the operator's rows of a level that is the only one. The place behind them.
-fn sole_bits(m: usize, n: usize, h: Hits, flags: &mut [u64]) -> usize
-    requires hits_long { HitsLong h }
+fn sole_bits(m: usize, n: usize, h: &Hits, flags: &mut [u64]) -> usize
+    requires hits_long { HitsLong h.now }
     requires n_bound { (n ≤ 12288) × (12288 ≤ 64 * length flags.old) }
-    ensures { SoleBits m n h flags.old flags.new result }
+    ensures { SoleBits m n h.now flags.old flags.new result }
 {
     if m > 0 {
         return 0;
     }
-    let operator = h.operator;
-    raise_bits(flags, 0, n, &operator)
+    raise_bits(flags, 0, n, &h.operator)
 }
 
 // ---- the flags of a level
@@ -147,33 +140,24 @@ fn transfer_hits(
     columns: &[usize],
     tstarts: &[usize],
     tcolumns: &[usize],
-    h: Hits,
-) -> Hits
+    h: &mut Hits,
+)
     requires limits { Limits l.grid }
     requires level_lt_m { (level < m) × (m ≤ 11) }
     requires has_lines { HasLines (full_lattice l st.now) m lines }
-    requires hits_long { HitsLong h }
+    requires hits_long { HitsLong h.old }
     requires transfer_held { TransferHeld (full_lattice l st.now) level a starts.now columns.now tstarts.now tcolumns.now }
-    ensures { TransferRaised (full_lattice l st.now) level h result }
+    ensures { TransferRaised (full_lattice l st.now) level h.old h.new }
 {
     let n = lines::level_edges(l, st, lines, m, level);
     let k = lines::level_edges(l, st, lines, m, level + 1);
-    let fine = h.eps;
-    let averaged = h.averaged;
-    let operator = h.operator;
     let mut eps = [false; EDGES];
-    flags::eps_flags(l, st, lines, m, level, &fine, &mut eps);
-    let mut forward = [false; EDGES];
-    flags::stored_flags(a.forward, n, starts, columns, &eps, &mut forward);
-    let mut turned = [false; EDGES];
-    flags::stored_flags(a.turned, k, tstarts, tcolumns, &forward, &mut turned);
-    Hits {
-        eps,
-        averaged,
-        forward,
-        turned,
-        operator,
-    }
+    flags::eps_flags(l, st, lines, m, level, &h.eps, &mut eps);
+    h.eps = eps;
+    h.forward = [false; EDGES];
+    flags::stored_flags(a.forward, n, starts, columns, &h.eps, &mut h.forward);
+    h.turned = [false; EDGES];
+    flags::stored_flags(a.turned, k, tstarts, tcolumns, &h.forward, &mut h.turned);
 }
 
 // Raises the flags of the n rows of level `level`'s operator that name a flagged column. Level 0's are not stored, the others stand from o on.
@@ -212,35 +196,24 @@ fn galerkin_hits(
     tcolumns: &[usize],
     ostarts: &[usize],
     ocolumns: &[usize],
-    h: Hits,
-) -> Hits
+    h: &mut Hits,
+)
     requires limits { Limits l.grid }
     requires level_lt_m { (level < m) × (m ≤ 11) }
     requires has_lines { HasLines (full_lattice l st.now) m lines }
-    requires hits_long { HitsLong h }
+    requires hits_long { HitsLong h.old }
     requires rows_held { RowsHeld (turned_cols (full_lattice l st.now) level) (edges_on (full_lattice l st.now) (suc level)) a.turned tstarts.now tcolumns.now }
     requires operator_held { OperatorHeld (full_lattice l st.now) Galerkin level a.operator ostarts.now ocolumns.now }
-    ensures { OperatorRaised (full_lattice l st.now) Galerkin level h result }
+    ensures { OperatorRaised (full_lattice l st.now) Galerkin level h.old h.new }
 {
     let n = lines::level_edges(l, st, lines, m, level);
     let k = lines::level_edges(l, st, lines, m, level + 1);
-    let eps = h.eps;
-    let averaged = h.averaged;
-    let forward = h.forward;
-    let turned = h.turned;
     let mut leads = h.operator;
     lead_flags(
-        l, st, level, a.operator, n, ostarts, ocolumns, &forward, &mut leads,
+        l, st, level, a.operator, n, ostarts, ocolumns, &h.forward, &mut leads,
     );
-    let mut operator = [false; EDGES];
-    flags::stored_flags(a.turned, k, tstarts, tcolumns, &leads, &mut operator);
-    Hits {
-        eps,
-        averaged,
-        forward,
-        turned,
-        operator,
-    }
+    h.operator = [false; EDGES];
+    flags::stored_flags(a.turned, k, tstarts, tcolumns, &leads, &mut h.operator);
 }
 
 // The averaged permittivities and the rows of the rediscretized operator of level `level` + 1.
@@ -250,29 +223,19 @@ fn rediscretized_hits(
     lines: [Line; 36],
     m: usize,
     level: usize,
-    h: Hits,
-) -> Hits
+    h: &mut Hits,
+)
     requires limits { Limits l.grid }
     requires level_lt_m { (level < m) × (m ≤ 11) }
     requires has_lines { HasLines (full_lattice l st.now) m lines }
-    requires hits_long { HitsLong h }
-    ensures { OperatorRaised (full_lattice l st.now) Rediscretized level h result }
+    requires hits_long { HitsLong h.old }
+    ensures { OperatorRaised (full_lattice l st.now) Rediscretized level h.old h.new }
 {
-    let eps = h.eps;
-    let fine = h.averaged;
-    let forward = h.forward;
-    let turned = h.turned;
     let mut averaged = [false; EDGES];
-    flags::averaged_flags(l, st, lines, m, level, &fine, &mut averaged);
-    let mut operator = [false; EDGES];
-    flags::rediscretized_flags(l, st, lines, m, level, &averaged, &mut operator);
-    Hits {
-        eps,
-        averaged,
-        forward,
-        turned,
-        operator,
-    }
+    flags::averaged_flags(l, st, lines, m, level, &h.averaged, &mut averaged);
+    h.averaged = averaged;
+    h.operator = [false; EDGES];
+    flags::rediscretized_flags(l, st, lines, m, level, &h.averaged, &mut h.operator);
 }
 
 // Either of them.
@@ -288,15 +251,15 @@ fn operator_hits(
     tcolumns: &[usize],
     ostarts: &[usize],
     ocolumns: &[usize],
-    h: Hits,
-) -> Hits
+    h: &mut Hits,
+)
     requires limits { Limits l.grid }
     requires level_lt_m { (level < m) × (m ≤ 11) }
     requires has_lines { HasLines (full_lattice l st.now) m lines }
-    requires hits_long { HitsLong h }
+    requires hits_long { HitsLong h.old }
     requires rows_held { RowsHeld (turned_cols (full_lattice l st.now) level) (edges_on (full_lattice l st.now) (suc level)) a.turned tstarts.now tcolumns.now }
     requires operator_held { OperatorHeld (full_lattice l st.now) choice level a.operator ostarts.now ocolumns.now }
-    ensures { OperatorRaised (full_lattice l st.now) choice level h result }
+    ensures { OperatorRaised (full_lattice l st.now) choice level h.old h.new }
 {
     match choice {
         Choice::Galerkin => galerkin_hits(
@@ -321,22 +284,22 @@ fn level_hits(
     tcolumns: &[usize],
     ostarts: &[usize],
     ocolumns: &[usize],
-    h: Hits,
-) -> Hits
+    h: &mut Hits,
+)
     requires limits { Limits l.grid }
     requires level_lt_m { (level < m) × (m ≤ 11) }
     requires has_lines { HasLines (full_lattice l st.now) m lines }
-    requires hits_long { HitsLong h }
+    requires hits_long { HitsLong h.old }
     requires transfer_held { TransferHeld (full_lattice l st.now) level a starts.now columns.now tstarts.now tcolumns.now }
     requires operator_held { OperatorHeld (full_lattice l st.now) choice level a.operator ostarts.now ocolumns.now }
-    ensures { LevelRaised (full_lattice l st.now) choice level h result }
+    ensures { LevelRaised (full_lattice l st.now) choice level h.old h.new }
 {
-    let t = transfer_hits(
+    transfer_hits(
         l, st, lines, m, level, a, starts, columns, tstarts, tcolumns, h,
     );
     operator_hits(
-        choice, l, st, lines, m, level, a, tstarts, tcolumns, ostarts, ocolumns, t,
-    )
+        choice, l, st, lines, m, level, a, tstarts, tcolumns, ostarts, ocolumns, h,
+    );
 }
 
 // ---- where the rows stand
@@ -413,7 +376,7 @@ pub fn raise_flags(
 {
     let first = lines::level_edges(l, st, lines, m, 0);
     let mut h = first_hits(choice, l, st, m, edge);
-    let mut base = sole_bits(m, first, h, flags);
+    let mut base = sole_bits(m, first, &h, flags);
     let start = Part { s: 0, k: 0 };
     let mut a = LevelParts {
         forward: start,
@@ -423,11 +386,11 @@ pub fn raise_flags(
     for level in 0..m {
         let n = lines::level_edges(l, st, lines, m, level);
         let k = lines::level_edges(l, st, lines, m, level + 1);
-        h = level_hits(
+        level_hits(
             choice, l, st, lines, m, level, a, starts, columns, tstarts, tcolumns, ostarts,
-            ocolumns, h,
+            ocolumns, &mut h,
         );
-        base = level_bits(choice, n, k, base, h, flags);
+        base = level_bits(choice, n, k, base, &h, flags);
         a = next_parts(choice, l, st, lines, m, level, a, starts, tstarts, ostarts);
     }
 }

@@ -165,19 +165,15 @@ pub fn find(
     requires part_lt_parts { (part < parts) × (row ≤ rows_of (chart flags.now shape.now starts.now tstarts.now ostarts.now) part) }
     ensures { Found (chart flags.now shape.now starts.now tstarts.now ostarts.now) parts part row result }
 {
-    let mut p = part;
-    let mut i = row;
-    while p < parts {
-        if i < shape[5 * p] {
+    let mut first = row;
+    for p in part..parts {
+        for i in first..shape[5 * p] {
             let c = flagged(parts, flags, shape, starts, tstarts, ostarts, p, i);
             if c.left > 0 {
                 return c;
             }
-            i += 1;
-        } else {
-            p += 1;
-            i = 0;
         }
+        first = 0;
     }
     Cursor {
         part: parts,
@@ -248,16 +244,14 @@ pub fn save(
         (five eps.now values.now tvalues.now ovalues.now scaling.now) from old.new result }
 {
     let mut c = from;
-    let mut n = 0;
-    while n < 512 {
-        if c.left == 0 {
-            return Saved { next: c, n };
-        }
-        old[n] = read(c.list, c.at, eps, values, tvalues, ovalues, scaling);
+    for (n, kept) in old.iter_mut().enumerate() {
+        *kept = read(c.list, c.at, eps, values, tvalues, ovalues, scaling);
         c = step(parts, flags, shape, starts, tstarts, ostarts, c);
-        n += 1;
+        if c.left == 0 {
+            return Saved { next: c, n: n + 1 };
+        }
     }
-    Saved { next: c, n }
+    Saved { next: c, n: 512 }
 }
 
 // n doubles, from a cursor on, put back.
@@ -287,8 +281,8 @@ pub fn put_back(
         (take n (rest_of (chart flags.now shape.now starts.now tstarts.now ostarts.now) parts from)) old.now 0 }
 {
     let mut c = from;
-    for k in 0..n {
-        write(c.list, c.at, old[k], eps, values, tvalues, ovalues, scaling);
+    for &x in &old[..n] {
+        write(c.list, c.at, x, eps, values, tvalues, ovalues, scaling);
         c = step(parts, flags, shape, starts, tstarts, ostarts, c);
     }
 }

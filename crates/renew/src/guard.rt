@@ -11,8 +11,9 @@ ghost use Rattle.store.specs.RenewSteps.{NoVolumes};
 ghost use Rattle.store.specs.Renewed.{fixed, five, Shaped, FiveRoom, Renewed, Restored};
 ghost use Rattle.store.specs.Cells.{chart, rest_of, ChartFits, CellsFit, CursorIn};
 ghost use Rattle.store.specs.Guard.{Ready, Guarded};
+ghost use Rattle.renew.specs.Codes.{code_of};
 
-use crate::{cursor, parts, shape};
+use crate::{NotFinite, cursor, parts, shape};
 use lattice::lattice::Lattice;
 use lattice::levels;
 use lattice::line::Line;
@@ -38,13 +39,13 @@ fn renewed(
     tvalues: &mut [f64],
     ovalues: &mut [f64],
     scaling: &mut [f64],
-) -> usize
+) -> Result<(), NotFinite>
     requires { Ready (full_lattice l st.now) choice m coarsest flags.now (fixed starts.now columns.now tstarts.now tcolumns.now ostarts.now ocolumns.now)
         (five eps.old values.old tvalues.old ovalues.old scaling.old) }
     ensures { Renewed (full_lattice l st.now) choice m
         (fixed starts.now columns.now tstarts.now tcolumns.now ostarts.now ocolumns.now)
         (flagged_rows (full_lattice l st.now) choice m flags.now)
-        (five eps.old values.old tvalues.old ovalues.old scaling.old) result
+        (five eps.old values.old tvalues.old ovalues.old scaling.old) (code_of result)
         (five eps.new values.new tvalues.new ovalues.new scaling.new) }
 {
     let found = levels::join_lines(l, st, coarsest);
@@ -77,7 +78,7 @@ fn guard(
     tvalues: &mut [f64],
     ovalues: &mut [f64],
     scaling: &mut [f64],
-) -> usize
+) -> Result<(), NotFinite>
     requires ready { Ready (full_lattice l st.now) choice m coarsest flags.now (fixed starts.now columns.now tstarts.now tcolumns.now ostarts.now ocolumns.now)
         (five eps.old values.old tvalues.old ovalues.old scaling.old) }
     requires chart_fits { ChartFits (chart flags.now shape.now starts.now tstarts.now ostarts.now) parts }
@@ -87,7 +88,7 @@ fn guard(
         (fixed starts.now columns.now tstarts.now tcolumns.now ostarts.now ocolumns.now)
         (flagged_rows (full_lattice l st.now) choice m flags.now)
         (rest_of (chart flags.now shape.now starts.now tstarts.now ostarts.now) parts c)
-        (five eps.old values.old tvalues.old ovalues.old scaling.old) result
+        (five eps.old values.old tvalues.old ovalues.old scaling.old) (code_of result)
         (five eps.new values.new tvalues.new ovalues.new scaling.new) }
 {
     if c.left == 0 {
@@ -102,21 +103,20 @@ fn guard(
         &mut old,
     );
     let next = saved.next;
-    let bad = guard(
+    if let Err(bad) = guard(
         choice, l, st, coarsest, m, parts, flags, shape, starts, columns, tstarts, tcolumns,
         ostarts, ocolumns, next, eps, values, tvalues, ovalues, scaling,
-    );
-    if bad == 0 {
-        return 0;
+    ) {
+        cursor::put_back(
+            parts, flags, shape, starts, tstarts, ostarts, c, saved.n, &old, eps, values, tvalues,
+            ovalues, scaling,
+        );
+        return Err(bad);
     }
-    cursor::put_back(
-        parts, flags, shape, starts, tstarts, ostarts, c, saved.n, &old, eps, values, tvalues,
-        ovalues, scaling,
-    );
-    bad
+    Ok(())
 }
 
-// The flagged rows worked out anew, or all as before: 0 where all numbers are finite, else 1 + the level of the first row that has one that is not.
+// The flagged rows worked out anew, or all as before where a number is not finite.
 // `requires`: the lines of m + 1 levels, which is how many there are.
 pub fn renew_or_restore(
     choice: Choice,
@@ -137,7 +137,7 @@ pub fn renew_or_restore(
     tvalues: &mut [f64],
     ovalues: &mut [f64],
     scaling: &mut [f64],
-) -> usize
+) -> Result<(), NotFinite>
     requires limits { Limits l.grid }
     requires m_bound { m ≤ 11 }
     requires coarsest_value { depth_of (full_lattice l st.now) coarsest ≡ accepted (suc m) }
@@ -149,7 +149,7 @@ pub fn renew_or_restore(
     ensures { Restored (full_lattice l st.now) choice m
         (fixed starts.now columns.now tstarts.now tcolumns.now ostarts.now ocolumns.now)
         (flagged_rows (full_lattice l st.now) choice m flags.now)
-        (five eps.old values.old tvalues.old ovalues.old scaling.old) result
+        (five eps.old values.old tvalues.old ovalues.old scaling.old) (code_of result)
         (five eps.new values.new tvalues.new ovalues.new scaling.new) }
 {
     let mut shape = [0usize; 390];

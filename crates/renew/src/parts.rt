@@ -14,8 +14,9 @@ ghost use Rattle.store.specs.Flagged.{RenewedIn, with_eps, StartsAt, TurnedReady
 ghost use Rattle.store.specs.RenewSteps.{flagged_some, NoVolumes, fine_of, OperatorStarts, TurnedRows};
 ghost use Rattle.store.specs.RenewLevels.{standing_at, WeightRoom, WeightsRenewed, ScaledRenewed};
 ghost use Rattle.store.specs.declared.Choice.TheVariants.{Rediscretized};
+ghost use Rattle.renew.specs.Codes.{code_of};
 
-use crate::{renew_operator, renew_transfer};
+use crate::{NotFinite, renew_operator, renew_transfer};
 use lattice::lattice::Lattice;
 use lattice::line::Line;
 use numbers::terms::Part;
@@ -96,7 +97,7 @@ fn eps_parts(
     w: Standing,
     flags: &[u64],
     eps: &mut [f64],
-) -> usize
+) -> Result<(), NotFinite>
     requires limits { Limits l.grid }
     requires level_lt_m { (level < m) × (m ≤ 11) }
     requires has_lines { HasLines (full_lattice l st.now) m lines }
@@ -104,14 +105,11 @@ fn eps_parts(
     requires m_bound { part_off (full_lattice l st.now) choice m (part_count m) ≤ 64 * length flags.now }
     requires m_in_bounds { 2 * eps_need (full_lattice l st.now) choice m ≤ length eps.old }
     ensures { RenewedIn (full_lattice l st.now) choice m (flagged_some (full_lattice l st.now) choice m flags.now (suc (7 * level)) 2)
-        with_eps eps.old result eps.new }
+        with_eps eps.old (code_of result) eps.new }
 {
-    let a = renew_transfer::coarse_part(choice, l, st, lines, m, level, o, flags, w.base, eps);
-    if a != 0 {
-        return a;
-    }
+    renew_transfer::coarse_part(choice, l, st, lines, m, level, o, flags, w.base, eps)?;
     match choice {
-        Choice::Galerkin => 0,
+        Choice::Galerkin => Ok(()),
         Choice::Rediscretized => {
             let c = lines::level_edges(l, st, lines, m, level + 1);
             renew_transfer::averaged_part(
@@ -148,7 +146,7 @@ fn weight_parts(
     eps: &[f64],
     values: &mut [f64],
     tvalues: &mut [f64],
-) -> usize
+) -> Result<(), NotFinite>
     requires limits { Limits l.grid }
     requires level_lt_m { (level < m) × (m ≤ 11) }
     requires has_lines { HasLines (full_lattice l st.now) m lines }
@@ -158,18 +156,15 @@ fn weight_parts(
     requires turned_ready { TurnedReady (full_lattice l st.now) level o (edges_on (full_lattice l st.now) level) starts.now columns.now values.old tstarts.now tcolumns.now }
     requires weight_room { WeightRoom (full_lattice l st.now) choice m eps.now values.old tvalues.old }
     ensures { WeightsRenewed (full_lattice l st.now) choice m (flagged_some (full_lattice l st.now) choice m flags.now (suc (7 * level + 2)) 2)
-        eps.now values.old tvalues.old result values.new tvalues.new }
+        eps.now values.old tvalues.old (code_of result) values.new tvalues.new }
 {
     let n = lines::level_edges(l, st, lines, m, level);
     let c = lines::level_edges(l, st, lines, m, level + 1);
     let d = needs::only(choice, c);
     let b = w.base + (c + d);
-    let a = renew_transfer::forward_part(
+    renew_transfer::forward_part(
         choice, l, st, lines, m, level, o, flags, b, starts, eps, values,
-    );
-    if a != 0 {
-        return a;
-    }
+    )?;
     renew_transfer::turned_part(
         choice,
         l,
@@ -206,7 +201,7 @@ fn scaled_parts(
     tvalues: &[f64],
     ovalues: &mut [f64],
     scaling: &mut [f64],
-) -> usize
+) -> Result<(), NotFinite>
     requires limits { Limits l.grid }
     requires level_lt_m { (level < m) × (m ≤ 11) }
     requires has_lines { HasLines (full_lattice l st.now) m lines }
@@ -218,18 +213,15 @@ fn scaled_parts(
         × (2 * scale_off (full_lattice l st.now) m ≤ length scaling.old) }
     ensures { ScaledRenewed (full_lattice l st.now) m tstarts.now tcolumns.now
         (flagged_some (full_lattice l st.now) Rediscretized m flags.now (suc (7 * level + 4)) 3)
-        eps.now tvalues.now ovalues.old scaling.old result ovalues.new scaling.new }
+        eps.now tvalues.now ovalues.old scaling.old (code_of result) ovalues.new scaling.new }
 {
     let n = lines::level_edges(l, st, lines, m, level);
     let c = lines::level_edges(l, st, lines, m, level + 1);
     let b = w.base + (2 * n + 3 * c);
     let q = Part { s: w.s, k: w.k };
-    let a = renew_operator::share_part(
+    renew_operator::share_part(
         l, st, lines, m, level, o, w.scale, flags, b, tstarts, tcolumns, tvalues, scaling,
-    );
-    if a != 0 {
-        return a;
-    }
+    )?;
     renew_operator::stencil_part(
         l,
         st,
@@ -269,7 +261,7 @@ fn operator_parts(
     tvalues: &[f64],
     ovalues: &mut [f64],
     scaling: &mut [f64],
-) -> usize
+) -> Result<(), NotFinite>
     requires level_lt_m { level < m }
     requires has_lines { HasLines (full_lattice l st.now) m lines }
     requires o_value { (o ≡ offsets_at (full_lattice l st.now) level) × (fine ≡ fine_of (full_lattice l st.now) choice m level) × (w ≡ standing_at (full_lattice l st.now) choice m level) }
@@ -279,7 +271,7 @@ fn operator_parts(
     ensures { Renewed (full_lattice l st.now) choice m
         (fixed starts.now columns.now tstarts.now tcolumns.now ostarts.now ocolumns.now)
         (flagged_some (full_lattice l st.now) choice m flags.now (suc (7 * level + 4)) 3)
-        (five eps.now values.now tvalues.now ovalues.old scaling.old) result
+        (five eps.now values.now tvalues.now ovalues.old scaling.old) (code_of result)
         (five eps.now values.now tvalues.now ovalues.new scaling.new) }
 {
     match choice {
@@ -300,7 +292,7 @@ fn operator_parts(
     }
 }
 
-// All rows of the transfer from level `level` + 1 to `level`: 0, or `level` + 2.
+// All rows of the transfer from level `level` + 1 to `level`.
 fn renew_level(
     choice: Choice,
     l: Lattice,
@@ -323,7 +315,7 @@ fn renew_level(
     tvalues: &mut [f64],
     ovalues: &mut [f64],
     scaling: &mut [f64],
-) -> usize
+) -> Result<(), NotFinite>
     requires level_lt_m { level < m }
     requires has_lines { HasLines (full_lattice l st.now) m lines }
     requires o_value { (o ≡ offsets_at (full_lattice l st.now) level) × (fine ≡ fine_of (full_lattice l st.now) choice m level) × (w ≡ standing_at (full_lattice l st.now) choice m level) }
@@ -333,20 +325,14 @@ fn renew_level(
     ensures { Renewed (full_lattice l st.now) choice m
         (fixed starts.now columns.now tstarts.now tcolumns.now ostarts.now ocolumns.now)
         (flagged_some (full_lattice l st.now) choice m flags.now (suc (7 * level)) 7)
-        (five eps.old values.old tvalues.old ovalues.old scaling.old) result
+        (five eps.old values.old tvalues.old ovalues.old scaling.old) (code_of result)
         (five eps.new values.new tvalues.new ovalues.new scaling.new) }
 {
-    let a = eps_parts(choice, l, st, lines, m, level, o, w, flags, eps);
-    if a != 0 {
-        return a;
-    }
-    let b = weight_parts(
+    eps_parts(choice, l, st, lines, m, level, o, w, flags, eps)?;
+    weight_parts(
         choice, l, st, lines, m, level, o, w, flags, starts, columns, tstarts, tcolumns, eps,
         values, tvalues,
-    );
-    if b != 0 {
-        return b;
-    }
+    )?;
     operator_parts(
         choice, l, st, lines, m, level, o, fine, w, flags, starts, columns, tstarts, tcolumns,
         ostarts, ocolumns, eps, values, tvalues, ovalues, scaling,
@@ -355,7 +341,7 @@ fn renew_level(
 
 // ---- all transfers
 
-// All of them: 0, or 1 + the level of the first row that has a number that is not finite. `requires`: more than one level, their lines, starts and columns that
+// All of them, up to the first row that has a number that is not finite. `requires`: more than one level, their lines, starts and columns that
 // are the lattice's, room, and the flags of all rows, among them no volume's.
 fn renew_levels(
     choice: Choice,
@@ -375,7 +361,7 @@ fn renew_levels(
     tvalues: &mut [f64],
     ovalues: &mut [f64],
     scaling: &mut [f64],
-) -> usize
+) -> Result<(), NotFinite>
     requires m_nonzero { 0 < m }
     requires has_lines { HasLines (full_lattice l st.now) m lines }
     requires m_bound { (part_off (full_lattice l st.now) choice m (part_count m) ≤ 64 * length flags.now) × (NoVolumes (full_lattice l st.now) choice m flags.now) }
@@ -384,28 +370,25 @@ fn renew_levels(
     ensures { Renewed (full_lattice l st.now) choice m
         (fixed starts.now columns.now tstarts.now tcolumns.now ostarts.now ocolumns.now)
         (flagged_rows (full_lattice l st.now) choice m flags.now)
-        (five eps.old values.old tvalues.old ovalues.old scaling.old) result
+        (five eps.old values.old tvalues.old ovalues.old scaling.old) (code_of result)
         (five eps.new values.new tvalues.new ovalues.new scaling.new) }
 {
     let mut o = transfers::first_offsets(l, st, lines, m);
     let mut w = first_standing(choice, l, st, lines, m);
     let mut fine = FineRows::Computed;
     for level in 0..m {
-        let a = renew_level(
+        renew_level(
             choice, l, st, lines, m, level, o, fine, w, flags, starts, columns, tstarts, tcolumns,
             ostarts, ocolumns, eps, values, tvalues, ovalues, scaling,
-        );
-        if a != 0 {
-            return a;
-        }
+        )?;
         fine = FineRows::Stored(Part { s: w.s, k: w.k });
         o = transfers::next_offsets(l, st, lines, m, level, o, starts);
         w = next_standing(choice, l, st, lines, m, level, w, ostarts);
     }
-    0
+    Ok(())
 }
 
-// The rows of a store whose flags are set, of one level or of several: 0, or 1 + the level of the first row that has a number that is not finite; the rows behind
+// The rows of a store whose flags are set, of one level or of several, up to the first row that has a number that is not finite; the rows behind
 // it are as they were. `requires`: the lines of all levels, starts and columns that are the lattice's, room, and the flags of all rows, among them no volume's.
 pub fn renew_rows(
     choice: Choice,
@@ -425,7 +408,7 @@ pub fn renew_rows(
     tvalues: &mut [f64],
     ovalues: &mut [f64],
     scaling: &mut [f64],
-) -> usize
+) -> Result<(), NotFinite>
     requires limits { Limits l.grid }
     requires m_bound { m ≤ 11 }
     requires has_lines { HasLines (full_lattice l st.now) m lines }
@@ -436,7 +419,7 @@ pub fn renew_rows(
     ensures { Renewed (full_lattice l st.now) choice m
         (fixed starts.now columns.now tstarts.now tcolumns.now ostarts.now ocolumns.now)
         (flagged_rows (full_lattice l st.now) choice m flags.now)
-        (five eps.old values.old tvalues.old ovalues.old scaling.old) result
+        (five eps.old values.old tvalues.old ovalues.old scaling.old) (code_of result)
         (five eps.new values.new tvalues.new ovalues.new scaling.new) }
 {
     if m == 0 {

@@ -13,23 +13,24 @@ ghost use Rattle.store.specs.Rows.{share, operator};
 ghost use Rattle.store.specs.Parts.{flagged_to, flagged_part};
 ghost use Rattle.store.specs.Renewed.{fixed, five, Shaped, FiveRoom};
 ghost use Rattle.store.specs.Flagged.{PartFlags};
-ghost use Rattle.store.specs.RenewSteps.{StencilRule, OperatorStarts, EntryTaken, EntriesRenewed, TurnedRows, SharePlaces, ShareTaken, SharesRenewed, fine_of, GalerkinPlaces, GalerkinTaken, GalerkinRenewed};
+ghost use Rattle.store.specs.RenewSteps.{StencilRule, OperatorStarts, EntryMade, EntriesRenewed, TurnedRows, SharePlaces, ShareMade, SharesRenewed, fine_of, GalerkinPlaces, GalerkinTaken, GalerkinRenewed};
 ghost use Rattle.store.specs.declared.Choice.TheVariants.{Galerkin, Rediscretized};
+ghost use Rattle.renew.specs.Codes.{code_of};
 
-use crate::flag;
+use crate::{NotFinite, each, flag};
 use lattice::grid;
 use lattice::lattice::Lattice;
 use lattice::line::Line;
 use numbers::lists;
 use numbers::terms::Part;
-use operators::galerkin::{FineRows, SUM_DOUBLES};
+use operators::galerkin::{FineRows, Rows, SUM_DOUBLES};
 use operators::{galerkin, rediscretized, stencil, volumes};
 use store::transfers::Offsets;
 use store::{Choice, lines};
 
 // ---- the lattice's own rows
 
-// Row r of level `level`'s operator, if flag q is set: the row of the level's own lattice, over the permittivities from place `from` on; whether its
+// Row r of level `level`'s operator: the row of the level's own lattice, over the permittivities from place `from` on; whether its
 // numbers are finite.
 fn stencil_row(
     choice: Choice,
@@ -44,8 +45,6 @@ fn stencil_row(
     o: Part,
     ostarts: &[usize],
     ovalues: &mut [f64],
-    flags: &[u64],
-    q: usize,
     r: usize,
 ) -> bool
     requires limits { Limits l.grid }
@@ -53,18 +52,15 @@ fn stencil_row(
     requires from_bound { (from ≤ 2 ^ 32) × (2 * (from + edges_on (full_lattice l st.now) level) ≤ length eps.now) }
     requires operator_starts { OperatorStarts (full_lattice l st.now) choice m level o ostarts.now }
     requires level_in_bounds { 2 * (o.k + operator_count (full_lattice l st.now) choice level) ≤ length ovalues.old }
-    requires r_bound { (r < edges_on (full_lattice l st.now) level) × (q < 64 * length flags.now) }
-    ensures { EntryTaken (full_lattice l st.now) choice m flags.now q (operator level r)
+    requires r_bound { r < edges_on (full_lattice l st.now) level }
+    ensures { EntryMade (full_lattice l st.now) choice m (operator level r)
         eps.now ovalues.old result ovalues.new }
 {
-    if !flag::flag(flags, q) {
-        return true;
-    }
     let at = o.k + ostarts[o.s + r];
     stencil::stencil_numbers(own, stretches, eps, from, r, ovalues, at)
 }
 
-// All n rows of it: 0, or the level's number + 1.
+// All n rows of it.
 fn stencil_rows(
     choice: Choice,
     l: Lattice,
@@ -81,7 +77,7 @@ fn stencil_rows(
     flags: &[u64],
     base: usize,
     n: usize,
-) -> usize
+) -> Result<(), NotFinite>
     requires limits { Limits l.grid }
     requires stencil_rule { StencilRule (full_lattice l st.now) choice m level (full_lattice own stretches.now) from }
     requires from_bound { (from ≤ 2 ^ 32) × (2 * (from + edges_on (full_lattice l st.now) level) ≤ length eps.now) }
@@ -89,33 +85,23 @@ fn stencil_rows(
     requires level_in_bounds { 2 * (o.k + operator_count (full_lattice l st.now) choice level) ≤ length ovalues.old }
     requires n_value { (n ≡ edges_on (full_lattice l st.now) level) × (base ≤ 2 ^ 32) × (base + n ≤ 64 * length flags.now) × (level ≤ 12) }
     ensures { EntriesRenewed (full_lattice l st.now) choice m (flagged_to (operator level) flags.now base n)
-        eps.now ovalues.old result ovalues.new }
+        eps.now ovalues.old (code_of result) ovalues.new }
 {
-    for r in 0..n {
-        if !stencil_row(
-            choice,
-            l,
-            st,
-            m,
-            level,
-            own,
-            stretches,
-            eps,
-            from,
-            o,
-            ostarts,
-            ovalues,
-            flags,
-            base + r,
-            r,
-        ) {
-            return level + 1;
-        }
-    }
-    0
+    each::renew_each(
+        flags,
+        base,
+        n,
+        level,
+        ovalues,
+        |list: &mut [f64], r: usize| {
+            stencil_row(
+                choice, l, st, m, level, own, stretches, eps, from, o, ostarts, list, r,
+            )
+        },
+    )
 }
 
-// Those of level `level` + 1 of a rediscretized store, over its averaged permittivities, which begin at place `from`: 0, or `level` + 2.
+// Those of level `level` + 1 of a rediscretized store, over its averaged permittivities, which begin at place `from`.
 // `requires`: the lines of all levels, where the permittivities and the rows begin, the part's flags, and room.
 pub fn stencil_part(
     l: Lattice,
@@ -130,7 +116,7 @@ pub fn stencil_part(
     eps: &[f64],
     ostarts: &[usize],
     ovalues: &mut [f64],
-) -> usize
+) -> Result<(), NotFinite>
     requires limits { Limits l.grid }
     requires level_lt_m { (level < m) × (m ≤ 11) }
     requires has_lines { HasLines (full_lattice l st.now) m lines }
@@ -140,7 +126,7 @@ pub fn stencil_part(
     requires part_flags { PartFlags (full_lattice l st.now) Rediscretized m (suc (7 * level + 6)) base flags.now }
     ensures { EntriesRenewed (full_lattice l st.now) Rediscretized m
         (flagged_part (full_lattice l st.now) Rediscretized m flags.now (suc (7 * level + 6)))
-        eps.now ovalues.old result ovalues.new }
+        eps.now ovalues.old (code_of result) ovalues.new }
 {
     let s = lines::three(lines, level + 1);
     let own = rediscretized::rediscretized_lattice(l, s);
@@ -165,7 +151,7 @@ pub fn stencil_part(
     )
 }
 
-// Those of a level 0 that is the only one, of either choice: the lattice's own rows over the given permittivities. 0 or 1.
+// Those of a level 0 that is the only one, of either choice: the lattice's own rows over the given permittivities.
 pub fn sole_part(
     choice: Choice,
     l: Lattice,
@@ -174,14 +160,14 @@ pub fn sole_part(
     eps: &[f64],
     ostarts: &[usize],
     ovalues: &mut [f64],
-) -> usize
+) -> Result<(), NotFinite>
     requires limits { Limits l.grid }
     requires st_in_bounds { 2 * edges_on (full_lattice l st.now) 0 ≤ length eps.now }
     requires operator_starts { OperatorStarts (full_lattice l st.now) choice 0 0 (operator_part (full_lattice l st.now) choice 0 0) ostarts.now }
     requires choice_in_bounds { 2 * operator_off (full_lattice l st.now) choice 0 1 ≤ length ovalues.old }
     requires part_flags { PartFlags (full_lattice l st.now) choice 0 0 0 flags.now }
     ensures { EntriesRenewed (full_lattice l st.now) choice 0 (flagged_part (full_lattice l st.now) choice 0 flags.now 0)
-        eps.now ovalues.old result ovalues.new }
+        eps.now ovalues.old (code_of result) ovalues.new }
 {
     let n = grid::unknowns(l.grid);
     let o = Part { s: 0, k: 0 };
@@ -192,7 +178,7 @@ pub fn sole_part(
 
 // ---- inverse shares
 
-// That of coarse edge i of c, if flag q is set; whether it is finite. The turned rows stand from t on, the volumes of the n fine edges from place k on and
+// That of coarse edge i of c; whether it is finite. The turned rows stand from t on, the volumes of the n fine edges from place k on and
 // the inverse shares behind them.
 fn share_row(
     l: Lattice,
@@ -207,8 +193,6 @@ fn share_row(
     n: usize,
     scaling: &mut [f64],
     k: usize,
-    flags: &[u64],
-    q: usize,
     i: usize,
 ) -> bool
     requires limits { Limits l.grid }
@@ -216,17 +200,20 @@ fn share_row(
     requires turned_rows { TurnedRows (full_lattice l st.now) level tstarts.now tcolumns.now tvalues.now }
     requires share_places { SharePlaces (full_lattice l st.now) level t k n c }
     requires m_in_bounds { 2 * scale_off (full_lattice l st.now) m ≤ length scaling.old }
-    requires i_lt_c { (i < c) × (q < 64 * length flags.now) }
-    ensures { ShareTaken (full_lattice l st.now) m tstarts.now tcolumns.now flags.now q (share level i)
+    requires i_lt_c { i < c }
+    ensures { ShareMade (full_lattice l st.now) m tstarts.now tcolumns.now (share level i)
         tvalues.now scaling.old result scaling.new }
 {
-    if !flag::flag(flags, q) {
-        return true;
-    }
-    volumes::inverse_share(t, tstarts, tcolumns, tvalues, c, n, scaling, k, k + n, i)
+    let turned = Rows {
+        part: t,
+        starts: tstarts,
+        columns: tcolumns,
+        values: tvalues,
+    };
+    volumes::inverse_share(&turned, c, n, scaling, k, k + n, i)
 }
 
-// Those of all coarse edges: 0, or `level` + 2.
+// Those of all coarse edges.
 fn share_rows(
     l: Lattice,
     st: &[f64],
@@ -242,7 +229,7 @@ fn share_rows(
     k: usize,
     flags: &[u64],
     base: usize,
-) -> usize
+) -> Result<(), NotFinite>
     requires limits { Limits l.grid }
     requires level_lt_m { (level < m) × (m ≤ 11) }
     requires turned_rows { TurnedRows (full_lattice l st.now) level tstarts.now tcolumns.now tvalues.now }
@@ -250,30 +237,20 @@ fn share_rows(
     requires m_in_bounds { 2 * scale_off (full_lattice l st.now) m ≤ length scaling.old }
     requires base_bound { (base ≤ 2 ^ 32) × (base + c ≤ 64 * length flags.now) }
     ensures { SharesRenewed (full_lattice l st.now) m tstarts.now tcolumns.now (flagged_to (share level) flags.now base c)
-        tvalues.now scaling.old result scaling.new }
+        tvalues.now scaling.old (code_of result) scaling.new }
 {
-    for i in 0..c {
-        if !share_row(
-            l,
-            st,
-            m,
-            level,
-            t,
-            tstarts,
-            tcolumns,
-            tvalues,
-            c,
-            n,
-            scaling,
-            k,
-            flags,
-            base + i,
-            i,
-        ) {
-            return level + 2;
-        }
-    }
-    0
+    each::renew_each(
+        flags,
+        base,
+        c,
+        level + 1,
+        scaling,
+        |list: &mut [f64], i: usize| {
+            share_row(
+                l, st, m, level, t, tstarts, tcolumns, tvalues, c, n, list, k, i,
+            )
+        },
+    )
 }
 
 // Those of transfer `level` of a rediscretized store, whose volumes begin at place k. `requires`: the lines of all levels, the offsets of the transfer, its
@@ -292,7 +269,7 @@ pub fn share_part(
     tcolumns: &[usize],
     tvalues: &[f64],
     scaling: &mut [f64],
-) -> usize
+) -> Result<(), NotFinite>
     requires limits { Limits l.grid }
     requires level_lt_m { (level < m) × (m ≤ 11) }
     requires has_lines { HasLines (full_lattice l st.now) m lines }
@@ -302,7 +279,7 @@ pub fn share_part(
     requires part_flags { PartFlags (full_lattice l st.now) Rediscretized m (suc (7 * level + 5)) base flags.now }
     ensures { SharesRenewed (full_lattice l st.now) m tstarts.now tcolumns.now
         (flagged_part (full_lattice l st.now) Rediscretized m flags.now (suc (7 * level + 5)))
-        tvalues.now scaling.old result scaling.new }
+        tvalues.now scaling.old (code_of result) scaling.new }
 {
     let n = lines::level_edges(l, st, lines, m, level);
     let c = lines::level_edges(l, st, lines, m, level + 1);
@@ -354,16 +331,27 @@ fn galerkin_row(
     if !flag::flag(flags, q) {
         return true;
     }
+    let forward = Rows {
+        part: p,
+        starts,
+        columns,
+        values,
+    };
+    let turned = Rows {
+        part: t,
+        starts: tstarts,
+        columns: tcolumns,
+        values: tvalues,
+    };
     galerkin::galerkin_row(
-        fine, l, st, eps, p, starts, columns, values, t, tstarts, tcolumns, tvalues, c, o, ostarts,
-        ocolumns, ovalues, sums,
+        fine, l, st, eps, &forward, &turned, c, o, ostarts, ocolumns, ovalues, sums,
     );
     let first = ostarts[o.s + c];
     let last = ostarts[o.s + c + 1];
     lists::finite_numbers(ovalues, o.k + first, last - first)
 }
 
-// All n rows of it: 0, or `level` + 2.
+// All n rows of it.
 fn galerkin_rows(
     fine: FineRows,
     l: Lattice,
@@ -386,7 +374,7 @@ fn galerkin_rows(
     flags: &[u64],
     base: usize,
     n: usize,
-) -> usize
+) -> Result<(), NotFinite>
     requires level_lt_m { level < m }
     requires shaped { Shaped (full_lattice l st.now) Galerkin m (fixed starts.now columns.now tstarts.now tcolumns.now ostarts.now ocolumns.now) }
     requires five_room { FiveRoom (full_lattice l st.now) Galerkin m (five eps.now values.now tvalues.now ovalues.old []) }
@@ -395,9 +383,10 @@ fn galerkin_rows(
     ensures { GalerkinRenewed (full_lattice l st.now) m
         (fixed starts.now columns.now tstarts.now tcolumns.now ostarts.now ocolumns.now)
         (flagged_to (operator (suc level)) flags.now base n)
-        eps.now values.now tvalues.now ovalues.old result ovalues.new }
+        eps.now values.now tvalues.now ovalues.old (code_of result) ovalues.new }
 {
     let mut sums = [0.0; SUM_DOUBLES];
+    // Not by `renew_each`, whose step changes the list alone: each row changes the sums as well, and new ones for every row would be 24,576 zeros.
     for c in 0..n {
         if !galerkin_row(
             fine,
@@ -423,10 +412,10 @@ fn galerkin_rows(
             base + c,
             c,
         ) {
-            return level + 2;
+            return Err(NotFinite(level + 1));
         }
     }
-    0
+    Ok(())
 }
 
 // Those of level `level` + 1 of a Galerkin store, whose operator begins at part q. `requires`: the lines of all levels, the offsets of the transfer, where the
@@ -452,7 +441,7 @@ pub fn galerkin_part(
     values: &[f64],
     tvalues: &[f64],
     ovalues: &mut [f64],
-) -> usize
+) -> Result<(), NotFinite>
     requires level_lt_m { level < m }
     requires has_lines { HasLines (full_lattice l st.now) m lines }
     requires shaped { Shaped (full_lattice l st.now) Galerkin m (fixed starts.now columns.now tstarts.now tcolumns.now ostarts.now ocolumns.now) }
@@ -462,7 +451,7 @@ pub fn galerkin_part(
     ensures { GalerkinRenewed (full_lattice l st.now) m
         (fixed starts.now columns.now tstarts.now tcolumns.now ostarts.now ocolumns.now)
         (flagged_part (full_lattice l st.now) Galerkin m flags.now (suc (7 * level + 6)))
-        eps.now values.now tvalues.now ovalues.old result ovalues.new }
+        eps.now values.now tvalues.now ovalues.old (code_of result) ovalues.new }
 {
     let n = lines::level_edges(l, st, lines, m, level + 1);
     let p = Part { s: o.s, k: o.k };

@@ -1,7 +1,7 @@
 // The flagged rows of one transfer worked out anew in place, a kind at a time: the permittivities of its coarse level, in both chains, its forward rows and its
-// turned rows. Each kind is a loop over its rows that stops at the first that is not finite: 0 if there is none, else the transfer's fine level + 2.
+// turned rows. Each kind is a loop over its rows that stops at the first that is not finite.
 
-ghost use Rattle.std.specs.Prelude.{◌≡◌, suc, ◌+◌, ◌*◌, ◌<◌, ◌≤◌, ◌^◌, length};
+ghost use Rattle.std.specs.Prelude.{◌≡◌, ℕ, suc, ◌+◌, ◌*◌, ◌<◌, ◌≤◌, ◌^◌, length};
 ghost use Rattle.lattice.specs.Grid.{Limits};
 ghost use Rattle.lattice.specs.Lattice.{full_lattice};
 ghost use Rattle.weights.specs.Tables.{ChainRoom};
@@ -12,9 +12,10 @@ ghost use Rattle.store.specs.PhaseSteps.{averaged_from};
 ghost use Rattle.store.specs.declared.Choice.TheVariants.{Rediscretized};
 ghost use Rattle.store.specs.FillSteps.{offsets_at};
 ghost use Rattle.store.specs.Parts.{row_by, flagged_part};
-ghost use Rattle.store.specs.Flagged.{PartFlags, PairAt, Taken, RenewedIn, with_eps, with_forward, with_turned, StartsAt, WeightsReady, TurnedReady};
+ghost use Rattle.store.specs.Flagged.{PartFlags, PairAt, Made, RenewedIn, with_eps, with_forward, with_turned, StartsAt, WeightsReady, TurnedReady};
+ghost use Rattle.renew.specs.Codes.{code_of};
 
-use crate::flag;
+use crate::{NotFinite, each};
 use lattice::lattice::Lattice;
 use lattice::levels::Three;
 use lattice::line::Line;
@@ -22,37 +23,29 @@ use numbers::transpose;
 use operators::averaged;
 use store::transfers::Offsets;
 use store::{Choice, lines};
-use weights::rows::Span;
+use weights::rows::{Span, Weights};
 use weights::{eps, rows, tables};
 
 // ---- the permittivities of the coarse level
 
-// That of coarse edge r, if flag q is set; whether it is finite.
+// That of coarse edge r; whether it is finite.
 fn coarse_row(
-    choice: Choice,
     l: Lattice,
     st: &[f64],
-    m: usize,
     level: usize,
     fine: Three,
     coarse: Three,
     nn: &[usize],
-    flags: &[u64],
-    q: usize,
     eps: &mut [f64],
     from: usize,
     to: usize,
     r: usize,
 ) -> bool
     requires pair_at { PairAt (full_lattice l st.now) level fine coarse nn.now }
-    requires q_bound { q < 64 * length flags.now }
     requires chain_room { ChainRoom (edges_on (full_lattice l st.now) level) (edges_on (full_lattice l st.now) (suc level)) from to eps.old }
     requires from_value { (from ≡ eps_off (full_lattice l st.now) level) × (to ≡ eps_off (full_lattice l st.now) (suc level)) × (r < edges_on (full_lattice l st.now) (suc level)) }
-    ensures { Taken (full_lattice l st.now) choice m flags.now q (row_by 0 level r) with_eps eps.old result eps.new }
+    ensures { (ch : Choice) (m : ℕ) → Made (full_lattice l st.now) ch m (row_by 0 level r) with_eps eps.old result eps.new }
 {
-    if !flag::flag(flags, q) {
-        return true;
-    }
     let gf = tables::grid_of(l.grid, fine);
     let gc = tables::grid_of(l.grid, coarse);
     eps::coarse_eps_row(gf, gc, nn, eps, from, to, r)
@@ -70,7 +63,7 @@ pub fn coarse_part(
     flags: &[u64],
     base: usize,
     eps: &mut [f64],
-) -> usize
+) -> Result<(), NotFinite>
     requires limits { Limits l.grid }
     requires level_lt_m { (level < m) × (m ≤ 11) }
     requires has_lines { HasLines (full_lattice l st.now) m lines }
@@ -78,7 +71,7 @@ pub fn coarse_part(
     requires part_flags { PartFlags (full_lattice l st.now) choice m (suc (7 * level + 0)) base flags.now }
     requires m_in_bounds { 2 * eps_need (full_lattice l st.now) choice m ≤ length eps.old }
     ensures { RenewedIn (full_lattice l st.now) choice m (flagged_part (full_lattice l st.now) choice m flags.now (suc (7 * level + 0)))
-        with_eps eps.old result eps.new }
+        with_eps eps.old (code_of result) eps.new }
 {
     let fine = lines::three(lines, level);
     let coarse = lines::three(lines, level + 1);
@@ -86,32 +79,21 @@ pub fn coarse_part(
     let n = lines::edges(l, coarse);
     let from = o.feps;
     let to = o.ceps;
-    for r in 0..n {
-        if !coarse_row(
-            choice,
-            l,
-            st,
-            m,
-            level,
-            fine,
-            coarse,
-            &nn,
-            flags,
-            base + r,
-            eps,
-            from,
-            to,
-            r,
-        ) {
-            return level + 2;
-        }
-    }
-    0
+    each::renew_each(
+        flags,
+        base,
+        n,
+        level + 1,
+        eps,
+        |list: &mut [f64], r: usize| {
+            coarse_row(l, st, level, fine, coarse, &nn, list, from, to, r)
+        },
+    )
 }
 
 // ---- the averaged permittivities of the coarse level, of a rediscretized store
 
-// That of coarse edge r, if flag q is set; whether it is finite.
+// That of coarse edge r; whether it is finite.
 fn averaged_row(
     l: Lattice,
     st: &[f64],
@@ -120,22 +102,16 @@ fn averaged_row(
     fine: Three,
     coarse: Three,
     nn: &[usize],
-    flags: &[u64],
-    q: usize,
     eps: &mut [f64],
     from: usize,
     to: usize,
     r: usize,
 ) -> bool
     requires pair_at { PairAt (full_lattice l st.now) level fine coarse nn.now }
-    requires q_bound { q < 64 * length flags.now }
     requires chain_room { ChainRoom (edges_on (full_lattice l st.now) level) (edges_on (full_lattice l st.now) (suc level)) from to eps.old }
     requires from_value { (from ≡ averaged_from (full_lattice l st.now) m level) × (to ≡ averaged_off (full_lattice l st.now) m level) × (r < edges_on (full_lattice l st.now) (suc level)) }
-    ensures { Taken (full_lattice l st.now) Rediscretized m flags.now q (row_by 1 level r) with_eps eps.old result eps.new }
+    ensures { Made (full_lattice l st.now) Rediscretized m (row_by 1 level r) with_eps eps.old result eps.new }
 {
-    if !flag::flag(flags, q) {
-        return true;
-    }
     averaged::averaged_row(l, st, fine, coarse, nn, eps, from, to, r)
 }
 
@@ -151,7 +127,7 @@ pub fn averaged_part(
     flags: &[u64],
     base: usize,
     eps: &mut [f64],
-) -> usize
+) -> Result<(), NotFinite>
     requires limits { Limits l.grid }
     requires level_lt_m { (level < m) × (m ≤ 11) }
     requires has_lines { HasLines (full_lattice l st.now) m lines }
@@ -159,42 +135,30 @@ pub fn averaged_part(
     requires part_flags { PartFlags (full_lattice l st.now) Rediscretized m (suc (7 * level + 1)) base flags.now }
     requires m_in_bounds { 2 * averaged_off (full_lattice l st.now) m m ≤ length eps.old }
     ensures { RenewedIn (full_lattice l st.now) Rediscretized m (flagged_part (full_lattice l st.now) Rediscretized m flags.now (suc (7 * level + 1)))
-        with_eps eps.old result eps.new }
+        with_eps eps.old (code_of result) eps.new }
 {
     let fine = lines::three(lines, level);
     let coarse = lines::three(lines, level + 1);
     let nn = tables::nodes(l, st, fine, coarse);
     let n = lines::edges(l, coarse);
-    for r in 0..n {
-        if !averaged_row(
-            l,
-            st,
-            m,
-            level,
-            fine,
-            coarse,
-            &nn,
-            flags,
-            base + r,
-            eps,
-            from,
-            to,
-            r,
-        ) {
-            return level + 2;
-        }
-    }
-    0
+    each::renew_each(
+        flags,
+        base,
+        n,
+        level + 1,
+        eps,
+        |list: &mut [f64], r: usize| {
+            averaged_row(l, st, m, level, fine, coarse, &nn, list, from, to, r)
+        },
+    )
 }
 
 // ---- the forward rows
 
-// The numbers of row r, if flag q is set; whether they are finite. The rows' starts stand in the list from place `first` on, their numbers from place k on.
+// The numbers of row r; whether they are finite. The rows' starts stand in the list from place `first` on, their numbers from place k on.
 fn forward_row(
-    choice: Choice,
     l: Lattice,
     st: &[f64],
-    m: usize,
     level: usize,
     span: Span,
     ps: &[usize],
@@ -204,22 +168,24 @@ fn forward_row(
     starts: &[usize],
     first: usize,
     k: usize,
-    flags: &[u64],
-    q: usize,
     eps: &[f64],
     values: &mut [f64],
     r: usize,
 ) -> bool
     requires weights_ready { WeightsReady (full_lattice l st.now) level span ps.now ds.now ns.now xs.now eps.now }
     requires starts_at { StartsAt (forward_cols (full_lattice l st.now) level) (edges_on (full_lattice l st.now) level) first starts.now }
-    requires q_bound { q < 64 * length flags.now }
     requires k_value { (k ≡ forward_off (full_lattice l st.now) level) × (r < edges_on (full_lattice l st.now) level) × (k + forward_count (full_lattice l st.now) level ≤ 2 ^ 32) × (2 * (k + forward_count (full_lattice l st.now) level) ≤ length values.old) }
-    ensures { Taken (full_lattice l st.now) choice m flags.now q (row_by 2 level r) (with_forward eps.now) values.old result values.new }
+    ensures { (ch : Choice) (m : ℕ) → Made (full_lattice l st.now) ch m (row_by 2 level r) (with_forward eps.now) values.old result values.new }
 {
-    if !flag::flag(flags, q) {
-        return true;
-    }
-    rows::weights_row(span, ps, ds, ns, xs, eps, values, k + starts[first + r], r)
+    let w = Weights {
+        span,
+        places: ps,
+        nodes: ds,
+        counts: ns,
+        pulls: xs,
+        eps,
+    };
+    rows::weights_row(&w, values, k + starts[first + r], r)
 }
 
 // Those of all rows whose flags are set, from the transfer's tables.
@@ -242,40 +208,27 @@ fn forward_rows(
     base: usize,
     eps: &[f64],
     values: &mut [f64],
-) -> usize
+) -> Result<(), NotFinite>
     requires weights_ready { WeightsReady (full_lattice l st.now) level span ps.now ds.now ns.now xs.now eps.now }
     requires starts_at { StartsAt (forward_cols (full_lattice l st.now) level) (edges_on (full_lattice l st.now) level) first starts.now }
     requires part_flags { PartFlags (full_lattice l st.now) choice m (suc (7 * level + 2)) base flags.now }
     requires k_value { (k ≡ forward_off (full_lattice l st.now) level) × (n ≡ edges_on (full_lattice l st.now) level) × (k + forward_count (full_lattice l st.now) level ≤ 2 ^ 32) × (2 * (k + forward_count (full_lattice l st.now) level) ≤ length values.old) }
     requires level_bound { level ≤ 11 }
     ensures { RenewedIn (full_lattice l st.now) choice m (flagged_part (full_lattice l st.now) choice m flags.now (suc (7 * level + 2)))
-        (with_forward eps.now) values.old result values.new }
+        (with_forward eps.now) values.old (code_of result) values.new }
 {
-    for r in 0..n {
-        if !forward_row(
-            choice,
-            l,
-            st,
-            m,
-            level,
-            span,
-            ps,
-            ds,
-            ns,
-            xs,
-            starts,
-            first,
-            k,
-            flags,
-            base + r,
-            eps,
-            values,
-            r,
-        ) {
-            return level + 2;
-        }
-    }
-    0
+    each::renew_each(
+        flags,
+        base,
+        n,
+        level + 1,
+        values,
+        |list: &mut [f64], r: usize| {
+            forward_row(
+                l, st, level, span, ps, ds, ns, xs, starts, first, k, eps, list, r,
+            )
+        },
+    )
 }
 
 // Those of all rows whose flags are set, from the permittivities of both levels: the transfer's tables are worked out once.
@@ -292,7 +245,7 @@ pub fn forward_part(
     starts: &[usize],
     eps: &[f64],
     values: &mut [f64],
-) -> usize
+) -> Result<(), NotFinite>
     requires limits { Limits l.grid }
     requires level_lt_m { (level < m) × (m ≤ 11) }
     requires has_lines { HasLines (full_lattice l st.now) m lines }
@@ -301,7 +254,7 @@ pub fn forward_part(
     requires starts_at { StartsAt (forward_cols (full_lattice l st.now) level) (edges_on (full_lattice l st.now) level) (starts_off (edges_on (full_lattice l st.now)) level) starts.now }
     requires m_in_bounds { (2 * eps_need (full_lattice l st.now) choice m ≤ length eps.now) × (2 * forward_off (full_lattice l st.now) m ≤ length values.old) }
     ensures { RenewedIn (full_lattice l st.now) choice m (flagged_part (full_lattice l st.now) choice m flags.now (suc (7 * level + 2)))
-        (with_forward eps.now) values.old result values.new }
+        (with_forward eps.now) values.old (code_of result) values.new }
 {
     let fine = lines::three(lines, level);
     let coarse = lines::three(lines, level + 1);
@@ -331,17 +284,13 @@ pub fn forward_part(
 
 // ---- the turned rows
 
-// The numbers of turned row c, if flag q is set; whether they are finite. n is the count of the forward rows.
+// The numbers of turned row c; whether they are finite. n is the count of the forward rows.
 fn turned_row(
-    choice: Choice,
     l: Lattice,
     st: &[f64],
-    m: usize,
     level: usize,
     o: Offsets,
     n: usize,
-    flags: &[u64],
-    q: usize,
     starts: &[usize],
     columns: &[usize],
     values: &[f64],
@@ -351,13 +300,9 @@ fn turned_row(
     c: usize,
 ) -> bool
     requires turned_ready { TurnedReady (full_lattice l st.now) level o n starts.now columns.now values.now tstarts.now tcolumns.now }
-    requires q_bound { q < 64 * length flags.now }
     requires level_bound { (level ≤ 11) × (c < edges_on (full_lattice l st.now) (suc level)) × (2 * (turned_off (full_lattice l st.now) level + turned_count (full_lattice l st.now) level) ≤ length tvalues.old) }
-    ensures { Taken (full_lattice l st.now) choice m flags.now q (row_by 3 level c) (with_turned values.now) tvalues.old result tvalues.new }
+    ensures { (ch : Choice) (m : ℕ) → Made (full_lattice l st.now) ch m (row_by 3 level c) (with_turned values.now) tvalues.old result tvalues.new }
 {
-    if !flag::flag(flags, q) {
-        return true;
-    }
     transpose::turned_row(
         starts, o.s, columns, values, o.k, n, tstarts, o.ts, tcolumns, tvalues, o.tk, c,
     )
@@ -380,7 +325,7 @@ pub fn turned_part(
     tstarts: &[usize],
     tcolumns: &[usize],
     tvalues: &mut [f64],
-) -> usize
+) -> Result<(), NotFinite>
     requires limits { Limits l.grid }
     requires level_lt_m { (level < m) × (m ≤ 11) }
     requires has_lines { HasLines (full_lattice l st.now) m lines }
@@ -388,31 +333,20 @@ pub fn turned_part(
     requires part_flags { PartFlags (full_lattice l st.now) choice m (suc (7 * level + 3)) base flags.now }
     requires m_in_bounds { 2 * turned_off (full_lattice l st.now) m ≤ length tvalues.old }
     ensures { RenewedIn (full_lattice l st.now) choice m (flagged_part (full_lattice l st.now) choice m flags.now (suc (7 * level + 3)))
-        (with_turned values.now) tvalues.old result tvalues.new }
+        (with_turned values.now) tvalues.old (code_of result) tvalues.new }
 {
     let n = lines::level_edges(l, st, lines, m, level);
     let k = lines::level_edges(l, st, lines, m, level + 1);
-    for c in 0..k {
-        if !turned_row(
-            choice,
-            l,
-            st,
-            m,
-            level,
-            o,
-            n,
-            flags,
-            base + c,
-            starts,
-            columns,
-            values,
-            tstarts,
-            tcolumns,
-            tvalues,
-            c,
-        ) {
-            return level + 2;
-        }
-    }
-    0
+    each::renew_each(
+        flags,
+        base,
+        k,
+        level + 1,
+        tvalues,
+        |list: &mut [f64], c: usize| {
+            turned_row(
+                l, st, level, o, n, starts, columns, values, tstarts, tcolumns, list, c,
+            )
+        },
+    )
 }

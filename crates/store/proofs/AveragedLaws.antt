@@ -5,6 +5,7 @@ use mathlib.Core.Path.{◌≡◌, refl, sym, ap, subst, ◌∙◌}
 use mathlib.Core.Bool.{Bool, ◌&&◌}
 use mathlib.Core.List.{List}
 use native.Mathlib.Omega.{arith}
+use native.Mathlib.Numerals.{add-one}
 use lib.ListN.{length, get_or}
 use lib.Ieee.{Float}
 use Rattle.numbers.specs.declared.C64.{C64}
@@ -15,7 +16,7 @@ use Rattle.numbers.specs.Lists.{rows, laid_numbers, all_finite, sum_to, read_fro
 use Rattle.numbers.specs.Terms.{Term, numbers_of, LaidRows}
 use Rattle.numbers.proofs.Equations.{read_from_is}
 use Rattle.numbers.proofs.TabulateLaws.{tabulate_at_0}
-use Rattle.numbers.proofs.SumLaws.{Summing, sum_to_zero, sum_to_suc, sum_most, summing_most}
+use Rattle.numbers.proofs.SumLaws.{sum_agree, sum_to_zero, sum_to_suc, sum_most}
 use Rattle.numbers.proofs.ListLaws.{laid_numbers_length}
 use Rattle.numbers.proofs.TransposedLaws.{laid_count}
 use Rattle.numbers.proofs.PartLaws.{laid_next, laid_zero, part_number, part_room, rows_sum, sum_rise}
@@ -45,10 +46,10 @@ module _ (l : FullLattice) (limits : Limits l.grid) where
 
 -- ---- how many permittivities there are
 
-pub chain_fits : (l : FullLattice) → Limits l.grid → (m : ℕ) → m ≤ 11 → {n level sum k : ℕ} → Summing (edges_on l) n level sum
-    → n ≡ m + 1 → k ≡ edges_on l level → level < n → sum + k ≤ 2 ^ 32
-chain_fits l limits m deep {n} {level} {sum} {k} u e p h =
-    omega (arith, summing_most u (λ i b. edges_few l limits i), edges_few l limits level)
+pub chain_is : (l : FullLattice) (m : ℕ) {n : ℕ} → n ≡ sum_to (λ i. edges_on l (0 + i)) (m + 1) → n ≡ eps_off l (suc m)
+chain_is l m e =
+    e ∙ ap (sum_to (λ i. edges_on l (0 + i))) (add-one m)
+    ∙ sum_agree (λ i. edges_on l (0 + i)) (edges_on l) (suc m) (λ i h. let z : 0 + i ≡ i = omega arith in ap (edges_on l) z)
 
 -- ---- one level
 

@@ -38,9 +38,8 @@ use Rattle.store.specs.Setup.{if_stored, forward_starts_of, turned_starts_of, op
 use Rattle.store.specs.Store.{Store, sizes}
 use Rattle.store.specs.declared.Choice.{Choice}
 use Rattle.store.specs.declared.handed.Cells.{Cells}
-use Rattle.store.specs.declared.handed.Span.{Span}
-use Rattle.store.specs.declared.handed.Span.TheVariants.{At, Nowhere}
-use Rattle.store.specs.Handed.{cells_in, some_cells, level_there, edges_in, levels_there, start_in, terms_off, part_at, row_at, rows_from, transfer_row, weight_terms, first_of, operator_row, numbers_handed, columns_handed, part_of, weight_row_of, operator_row_of, CellsOf}
+use Rattle.std.specs.Prelude.{Some, None}
+use Rattle.store.specs.Handed.{Span, cells_in, some_cells, level_there, edges_in, levels_there, start_in, terms_off, part_at, row_at, rows_from, transfer_row, weight_terms, first_of, operator_row, numbers_handed, columns_handed, part_of, weight_row_of, operator_row_of, CellsOf}
 use Rattle.numbers.proofs.PartLaws.{sum_rise}
 
 -- ---- tests
@@ -50,9 +49,15 @@ and_last true e = e
 and_last false e = refl
 
 -- what a test that found a place showed
-at_taken : (b : Bool) {s : Span} {i j : ℕ} → cond b s Nowhere ≡ At i j → (b ≡ true) × (s ≡ At i j)
+at_taken : (b : Bool) {s : Span} {i j : ℕ} → cond b s None ≡ Some (i, j) → (b ≡ true) × (s ≡ Some (i, j))
 at_taken true e = (refl, e)
 at_taken false e = absurd (let z : ◌≡◌ {A = ℕ} 0 1 = cc in omega arith)
+
+-- a place found shows both of its numbers
+pair_is : {a b i j : ℕ} → ◌≡◌ {A = Span} (Some (a, b)) (Some (i, j)) → (a ≡ i) × (b ≡ j)
+pair_is {a} {b} {i} {j} e =
+    let p : ◌≡◌ {A = ℕ × ℕ} (a, b) (i, j) = cc in
+    (ap (λ (q : ℕ × ℕ). q.0) p, ap (λ (q : ℕ × ℕ). q.1) p)
 
 -- ---- levels
 
@@ -131,15 +136,15 @@ levels_few c n h = levels_stop c 12 n h (sym (level_none c 12 (omega arith)))
 -- ---- the parts before a part
 
 module _ (n : ℕ → ℕ) (ss : List ℕ) (room p : ℕ) where
-  pub part_found : starts_off n p ≤ length ss → terms_off n ss p ≤ room → At (starts_off n p) (terms_off n ss p) ≡ part_at n ss room p
+  pub part_found : starts_off n p ≤ length ss → terms_off n ss p ≤ room → Some (starts_off n p, terms_off n ss p) ≡ part_at n ss room p
   unfolding part_at
   part_found h k = rw (le-leb _ _ h, le-leb _ _ k) refl
 
-  pub part_starts : length ss < starts_off n p → Nowhere ≡ part_at n ss room p
+  pub part_starts : length ss < starts_off n p → None ≡ part_at n ss room p
   unfolding part_at
   part_starts h = rw (lt-leb _ _ h) refl
 
-  pub part_terms : room < terms_off n ss p → Nowhere ≡ part_at n ss room p
+  pub part_terms : room < terms_off n ss p → None ≡ part_at n ss room p
   unfolding part_at
   part_terms h = rw (and_last (leb (starts_off n p) (length ss)) (lt-leb _ _ h)) refl
 
@@ -161,7 +166,7 @@ module _ {n : ℕ → ℕ} {ss : List ℕ} {room p : ℕ} where
     next_starts : at + (k + 1) ≡ starts_off n (suc q)
     next_starts = omega (arith, u.at_is, sum_to_suc (λ i. n i + 1) q)
 
-    pub passed_starts : length ss - at ≤ k → Nowhere ≡ part_at n ss room p
+    pub passed_starts : length ss - at ≤ k → None ≡ part_at n ss room p
     passed_starts b = part_starts n ss room p (omega (arith, next_starts, u.at_fits, sum_rise (λ i. n i + 1) (suc q) p h))
 
     module _ {v : ℕ} (d : v ≡ get_or ss (at + k) 0) where
@@ -171,7 +176,7 @@ module _ {n : ℕ → ℕ} {ss : List ℕ} {room p : ℕ} where
           let f : v ≡ start_in n ss q (n q) = d ∙ (λ i. get_or ss (u.at_is i + e i) 0) in
           omega (arith, u.terms_is, sum_to_suc (λ i. start_in n ss i (n i)) q)
 
-      pub passed_terms : room - terms < v → Nowhere ≡ part_at n ss room p
+      pub passed_terms : room - terms < v → None ≡ part_at n ss room p
       unfolding terms_off
       passed_terms b = part_terms n ss room p (omega (arith, next_terms, u.terms_fit, sum_rise (λ i. start_in n ss i (n i)) (suc q) p h))
 
@@ -185,21 +190,21 @@ module _ {n : ℕ → ℕ} {ss : List ℕ} {room p : ℕ} where
             terms_fit = omega (arith, u.terms_fit);
           }
 
-  pub passed_end : {q at terms : ℕ} → Passed n ss room p q at terms → p ≤ q → At at terms ≡ part_at n ss room p
+  pub passed_end : {q at terms : ℕ} → Passed n ss room p q at terms → p ≤ q → Some (at, terms) ≡ part_at n ss room p
   passed_end {q} {at} {terms} u h =
       let e : q ≡ p = omega (arith, u.high) in
       let a : at ≡ starts_off n p = rw e at u.at_is in
       let t : terms ≡ terms_off n ss p = rw e at u.terms_is in
-      (λ i. At (a i) (t i)) ∙ part_found n ss room p (omega (arith, u.at_fits)) (omega (arith, u.terms_fit))
+      (λ i. Some (a i, t i)) ∙ part_found n ss room p (omega (arith, u.at_fits)) (omega (arith, u.terms_fit))
 
-  pub passed_whole : {at terms : ℕ} → part_at n ss room p ≡ At at terms → Passed n ss room p p at terms
+  pub passed_whole : {at terms : ℕ} → part_at n ss room p ≡ Some (at, terms) → Passed n ss room p p at terms
   unfolding part_at
   passed_whole {at} {terms} e =
       let f = leb (starts_off n p) (length ss) in
       let g = leb (terms_off n ss p) room in
-      let w : ((f && g) ≡ true) × (At (starts_off n p) (terms_off n ss p) ≡ At at terms) = at_taken (f && g) e in
-      let a : starts_off n p ≡ at = cc w.1 in
-      let t : terms_off n ss p ≡ terms = cc w.1 in
+      let w : ((f && g) ≡ true) × ◌≡◌ {A = Span} (Some (starts_off n p, terms_off n ss p)) (Some (at, terms)) = at_taken (f && g) e in
+      let a : starts_off n p ≡ at = (pair_is w.1).0 in
+      let t : terms_off n ss p ≡ terms = (pair_is w.1).1 in
       record {
         high = omega arith;
         at_is = sym a;
@@ -211,15 +216,15 @@ module _ {n : ℕ → ℕ} {ss : List ℕ} {room p : ℕ} where
 -- ---- a row, of a part whose starts and terms begin at known places
 
 module _ (n : ℕ → ℕ) (ss : List ℕ) (room p r : ℕ) where
-  pub row_missing : n p ≤ r → Nowhere ≡ row_at n ss room p r
+  pub row_missing : n p ≤ r → None ≡ row_at n ss room p r
   unfolding row_at
   row_missing h = rw (le-ltb _ _ h) refl
 
-  row_short : length ss ≤ starts_off n p + (r + 1) → Nowhere ≡ row_at n ss room p r
+  row_short : length ss ≤ starts_off n p + (r + 1) → None ≡ row_at n ss room p r
   unfolding row_at
   row_short h = rw (le-ltb _ _ h, and_last (ltb r (n p)) refl) refl
 
-  row_past : room < terms_off n ss p + start_in n ss p (r + 1) → Nowhere ≡ row_at n ss room p r
+  row_past : room < terms_off n ss p + start_in n ss p (r + 1) → None ≡ row_at n ss room p r
   unfolding row_at
   row_past h =
       rw (
@@ -230,27 +235,27 @@ module _ (n : ℕ → ℕ) (ss : List ℕ) (room p r : ℕ) where
       )
       refl
 
-  row_falls : start_in n ss p (r + 1) < start_in n ss p r → Nowhere ≡ row_at n ss room p r
+  row_falls : start_in n ss p (r + 1) < start_in n ss p r → None ≡ row_at n ss room p r
   unfolding row_at
   row_falls h = rw (lt-leb _ _ h, and_last (ltb (starts_off n p + (r + 1)) (length ss)) refl, and_last (ltb r (n p)) refl) refl
 
   pub row_is : r < n p → starts_off n p + (r + 1) < length ss → start_in n ss p r ≤ start_in n ss p (r + 1) → terms_off n ss p + start_in n ss p (r + 1) ≤ room
-      → At (terms_off n ss p + start_in n ss p r) (terms_off n ss p + start_in n ss p (r + 1)) ≡ row_at n ss room p r
+      → Some (terms_off n ss p + start_in n ss p r, terms_off n ss p + start_in n ss p (r + 1)) ≡ row_at n ss room p r
   unfolding row_at
   row_is h a o b = rw (lt-ltb _ _ h, lt-ltb _ _ a, le-leb _ _ o, le-leb _ _ b) refl
 
-  pub row_shut : part_at n ss room p ≡ Nowhere → Nowhere ≡ row_at n ss room p r
+  pub row_shut : part_at n ss room p ≡ None → None ≡ row_at n ss room p r
   unfolding part_at
   row_shut e = go (leb (starts_off n p) (length ss)) (leb (terms_off n ss p) room) refl refl e
     where
       go : (a b : Bool) → leb (starts_off n p) (length ss) ≡ a → leb (terms_off n ss p) room ≡ b
-          → cond (a && b) (At (starts_off n p) (terms_off n ss p)) Nowhere ≡ Nowhere → Nowhere ≡ row_at n ss room p r
+          → cond {A = Span} (a && b) (Some (starts_off n p, terms_off n ss p)) None ≡ None → None ≡ row_at n ss room p r
       go true true d f e = absurd (let z : ◌≡◌ {A = ℕ} 0 1 = cc in omega arith)
       go true false d f e = row_past (omega (arith, leb-false (terms_off n ss p) room f))
       go false b d f e = row_short (omega (arith, leb-false (starts_off n p) (length ss) d))
 
   -- what a row that was found shows
-  pub row_fits : {i j : ℕ} → row_at n ss room p r ≡ At i j → (i ≤ j) × (j ≤ room)
+  pub row_fits : {i j : ℕ} → row_at n ss room p r ≡ Some (i, j) → (i ≤ j) × (j ≤ room)
   unfolding row_at
   row_fits {i} {j} e =
       let x = start_in n ss p r in
@@ -259,65 +264,65 @@ module _ (n : ℕ → ℕ) (ss : List ℕ) (room p r : ℕ) where
       let f = ltb r (n p) in
       let g = ltb (starts_off n p + (r + 1)) (length ss) in
       let o = leb x y && leb (t + y) room in
-      let w : ((f && (g && o)) ≡ true) × (At (t + x) (t + y) ≡ At i j) = at_taken (f && (g && o)) e in
+      let w : ((f && (g && o)) ≡ true) × ◌≡◌ {A = Span} (Some (t + x, t + y)) (Some (i, j)) = at_taken (f && (g && o)) e in
       let v : o ≡ true = and_right g o (and_right f (g && o) w.0) in
-      let a : t + x ≡ i = cc w.1 in
-      let b : t + y ≡ j = cc w.1 in
+      let a : t + x ≡ i = (pair_is w.1).0 in
+      let b : t + y ≡ j = (pair_is w.1).1 in
       (omega (arith, leb-true x y (and_left (leb x y) (leb (t + y) room) v)), omega (arith, leb-true (t + y) room (and_right (leb x y) (leb (t + y) room) v)))
 
   module _ {at terms : ℕ} (u : Passed n ss room p p at terms) where
-    pub row_starts : length ss - at ≤ r + 1 → Nowhere ≡ row_at n ss room p r
+    pub row_starts : length ss - at ≤ r + 1 → None ≡ row_at n ss room p r
     row_starts h = row_short (omega (arith, u.at_is, u.at_fits))
 
-    pub row_unsorted : get_or ss (at + (r + 1)) 0 < get_or ss (at + r) 0 → Nowhere ≡ row_at n ss room p r
+    pub row_unsorted : get_or ss (at + (r + 1)) 0 < get_or ss (at + r) 0 → None ≡ row_at n ss room p r
     row_unsorted h = row_falls (rw u.at_is at h)
 
-    pub row_room : room - terms < get_or ss (at + (r + 1)) 0 → Nowhere ≡ row_at n ss room p r
+    pub row_room : room - terms < get_or ss (at + (r + 1)) 0 → None ≡ row_at n ss room p r
     row_room h = row_past (omega (arith, u.terms_is, u.terms_fit, rw u.at_is at h))
 
     pub row_found : r < n p → r + 1 < length ss - at → get_or ss (at + r) 0 ≤ get_or ss (at + (r + 1)) 0 → get_or ss (at + (r + 1)) 0 ≤ room - terms
-        → At (terms + get_or ss (at + r) 0) (terms + get_or ss (at + (r + 1)) 0) ≡ row_at n ss room p r
+        → Some (terms + get_or ss (at + r) 0, terms + get_or ss (at + (r + 1)) 0) ≡ row_at n ss room p r
     row_found h k o b =
-        (λ i. At (u.terms_is i + get_or ss (u.at_is i + r) 0) (u.terms_is i + get_or ss (u.at_is i + (r + 1)) 0))
+        (λ i. Some (u.terms_is i + get_or ss (u.at_is i + r) 0, u.terms_is i + get_or ss (u.at_is i + (r + 1)) 0))
         ∙ row_is h (omega (arith, u.at_is, u.at_fits)) (rw u.at_is at o) (omega (arith, u.terms_is, u.terms_fit, rw u.at_is at b))
 
 -- ---- a transfer's row, an operator's row
 
 module _ (c : Cells) (first : ℕ) (ss : List ℕ) (room L r : ℕ) where
-  pub transfer_none : levels_there c (L + 2) ≡ false → Nowhere ≡ transfer_row c first ss room L r
+  pub transfer_none : levels_there c (L + 2) ≡ false → None ≡ transfer_row c first ss room L r
   unfolding transfer_row
   transfer_none e = rw e refl
 
-  pub transfer_past : 11 ≤ L → Nowhere ≡ transfer_row c first ss room L r
+  pub transfer_past : 11 ≤ L → None ≡ transfer_row c first ss room L r
   transfer_past h = transfer_none (sym (levels_few c (L + 2) (omega arith)))
 
   pub transfer_there : levels_there c (L + 2) ≡ true → row_at (rows_from c first) ss room L r ≡ transfer_row c first ss room L r
   unfolding transfer_row
   transfer_there e = rw e refl
 
-  pub transfer_fits : {i j : ℕ} → transfer_row c first ss room L r ≡ At i j → (i ≤ j) × (j ≤ room)
+  pub transfer_fits : {i j : ℕ} → transfer_row c first ss room L r ≡ Some (i, j) → (i ≤ j) × (j ≤ room)
   unfolding transfer_row
   transfer_fits e = row_fits (rows_from c first) ss room L r (at_taken (levels_there c (L + 2)) e).1
 
 module _ (c : Cells) (ss : List ℕ) (room L r : ℕ) where
-  operator_none : (leb (first_of c) L && levels_there c (L + 1)) ≡ false → Nowhere ≡ operator_row c ss room L r
+  operator_none : (leb (first_of c) L && levels_there c (L + 1)) ≡ false → None ≡ operator_row c ss room L r
   unfolding operator_row
   operator_none e = rw e refl
 
-  pub operator_first : L < first_of c → Nowhere ≡ operator_row c ss room L r
+  pub operator_first : L < first_of c → None ≡ operator_row c ss room L r
   operator_first h = operator_none (rw (lt-leb _ _ h) refl)
 
-  pub operator_missing : levels_there c (L + 1) ≡ false → Nowhere ≡ operator_row c ss room L r
+  pub operator_missing : levels_there c (L + 1) ≡ false → None ≡ operator_row c ss room L r
   operator_missing e = operator_none (and_last (leb (first_of c) L) e)
 
-  pub operator_past : 12 ≤ L → Nowhere ≡ operator_row c ss room L r
+  pub operator_past : 12 ≤ L → None ≡ operator_row c ss room L r
   operator_past h = operator_missing (sym (levels_few c (L + 1) (omega arith)))
 
   pub operator_there : {k : ℕ} → k ≡ first_of c → k ≤ L → levels_there c (L + 1) ≡ true → row_at (rows_from c k) ss room (L - k) r ≡ operator_row c ss room L r
   unfolding operator_row
   operator_there {k} e h t = (λ i. row_at (rows_from c (e i)) ss room (L - e i) r) ∙ rw (le-leb (first_of c) L (omega (arith, e)), t) refl
 
-  pub operator_fits : {i j : ℕ} → operator_row c ss room L r ≡ At i j → (i ≤ j) × (j ≤ room)
+  pub operator_fits : {i j : ℕ} → operator_row c ss room L r ≡ Some (i, j) → (i ≤ j) × (j ≤ room)
   unfolding operator_row
   operator_fits e = row_fits (rows_from c (first_of c)) ss room (L - first_of c) r (at_taken (leb (first_of c) L && levels_there c (L + 1)) e).1
 
@@ -333,10 +338,10 @@ module _ (c : Cells) (b : Bool) (ss : List ℕ) (room : ℕ) (ts : List ℕ) (tr
   terms_forward e = rw e refl
 
   -- a row that is found fits the list that it is of
-  pub turned_fits : {i j : ℕ} → b ≡ true → weight_terms c b ss room ts troom L r ≡ At i j → (i ≤ j) × (j ≤ troom)
+  pub turned_fits : {i j : ℕ} → b ≡ true → weight_terms c b ss room ts troom L r ≡ Some (i, j) → (i ≤ j) × (j ≤ troom)
   turned_fits e d = transfer_fits c 1 ts troom L r (terms_turned e ∙ d)
 
-  pub forward_fits : {i j : ℕ} → b ≡ false → weight_terms c b ss room ts troom L r ≡ At i j → (i ≤ j) × (j ≤ room)
+  pub forward_fits : {i j : ℕ} → b ≡ false → weight_terms c b ss room ts troom L r ≡ Some (i, j) → (i ≤ j) × (j ≤ room)
   forward_fits e d = transfer_fits c 0 ss room L r (terms_forward e ∙ d)
 
 module _ (c : Cells) (b : Bool) (ss : List ℕ) (xs : List Float) (ts : List ℕ) (ys : List Float) (L r : ℕ) {s : Span} where
@@ -408,7 +413,7 @@ module _ (col : ℕ → ℕ → List ℕ) (n : ℕ → ℕ) where
 
     -- a row of a part is found where it was laid
     row_laid_lem : (room p r : ℕ) → terms_before col n m ≤ room → p < m → r < n p
-        → row_at n (starts_laid col n m ss) room p r ≡ At (terms_before col n p + start_of (col p) r) (terms_before col n p + start_of (col p) (suc r))
+        → row_at n (starts_laid col n m ss) room p r ≡ Some (terms_before col n p + start_of (col p) r, terms_before col n p + start_of (col p) (suc r))
     row_laid_lem room p r h o b =
         let ls = starts_laid col n m ss in
         let u : start_in n ls p r ≡ start_of (col p) r = start_laid p r o (omega arith) in
@@ -421,7 +426,7 @@ module _ (col : ℕ → ℕ → List ℕ) (n : ℕ → ℕ) where
         omega (arith, sum_rise (λ q. start_of (col q) (n q)) (suc p) m o, sum_to_suc (λ q. start_of (col q) (n q)) p)
         in
         sym (row_is n ls room p r b (omega arith) (omega arith) (omega (arith, start_room (col p) (n p) r b)))
-        ∙ (λ i. At (t i + u i) (t i + v i))
+        ∙ (λ i. Some (t i + u i, t i + v i))
 
 -- ---- parts from k on: those before are empty
 
@@ -629,7 +634,7 @@ module _ (l : FullLattice) (limits : Limits l.grid) (m : ℕ) (c : Cells) (own :
   -- a transfer's row, in the starts of either list
   module _ (first : ℕ) (col : ℕ → ℕ → List ℕ) (n : ℕ → ℕ) (same : (q : ℕ) → q < m → rows_from c first q ≡ n q) where
     transfer_laid : (ss : List ℕ) (room L r : ℕ) → starts_off n m ≤ length ss → terms_before col n m ≤ room → L < m → r < n L
-        → transfer_row c first (starts_laid col n m ss) room L r ≡ At (terms_before col n L + start_of (col L) r) (terms_before col n L + start_of (col L) (suc r))
+        → transfer_row c first (starts_laid col n m ss) room L r ≡ Some (terms_before col n L + start_of (col L) r, terms_before col n L + start_of (col L) (suc r))
     transfer_laid ss room L r a b h k =
         sym (transfer_there c first (starts_laid col n m ss) room L r (levels_own (L + 2) (omega arith)))
         ∙ row_same (rows_from c first) n (starts_laid col n m ss) room L r (λ q o. same q (omega arith))
@@ -699,7 +704,7 @@ module _ (l : FullLattice) (limits : Limits l.grid) (m : ℕ) (c : Cells) (own :
         ∙ row_same (rows_from c k) n ls (length cs) (L - k) r (λ q o. edges_own (q + k) (omega arith))
         ∙ row_laid_lem col n (suc m - k) ss (omega (arith, stored_starts_lem m (suc m) (omega arith) l)) (length cs) (L - k) r
         (omega (arith, stored_terms m (suc m) (omega arith) l ch)) (omega arith) (omega arith)
-        ∙ (λ i. At (t i + start_of (operator_cols l ch (here i)) r) (t i + start_of (operator_cols l ch (here i)) (suc r)))))
+        ∙ (λ i. Some (t i + start_of (operator_cols l ch (here i)) r, t i + start_of (operator_cols l ch (here i)) (suc r)))))
 
   -- ---- in a store that a setup filled: the row's own numbers and nothing more, and the operator's own columns
 

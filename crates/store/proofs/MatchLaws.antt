@@ -64,41 +64,6 @@ matches_append cs k (x ∷ xs) ys =
     let z : k + suc (length xs) ≡ suc k + length xs = omega arith in
     rw (z, matches_append cs (suc k) xs ys) (and_assoc (eqb (get_or cs k 0) x) (matches cs (suc k) xs) (matches cs (suc k + length xs) ys))
 
--- the first n of a list, read
-place_read : (row : List ℕ) (n i : ℕ) → i < n → get_or (places_in row 0 n) i 0 ≡ get_or row i 0
-place_read row n i h = let z : 0 + i ≡ i = omega arith in tabulate_at (entry_at row) n 0 i 0 h ∙ ap (λ (j : ℕ). get_or row j 0) z
-
--- the first n of a list, of which the first q stand there
-pub record Sames (cs : List ℕ) (k : ℕ) (row : List ℕ) (n q : ℕ) : Type 0 where
-  pub high : q ≤ n
-  pub same : (i : ℕ) → i < q → get_or cs (k + i) 0 ≡ get_or row i 0
-
-module _ {cs row : List ℕ} {k n : ℕ} where
-  -- the loop over it
-  pub sames_start : Sames cs k row n 0
-  sames_start = record { high = omega arith; same = λ i h. absurd (omega arith) }
-
-  pub sames_turn : {q : ℕ} → Sames cs k row n q → q < n → get_or cs (k + q) 0 ≡ get_or row q 0 → Sames cs k row n (q + 1)
-  sames_turn {q} u h e =
-      record {
-        high = omega arith;
-        same = λ i b. go i (bool? (eqb i q)) b;
-      }
-    where
-      go : (i : ℕ) → (eqb i q ≡ true) ⊎ (eqb i q ≡ false) → i < q + 1 → get_or cs (k + i) 0 ≡ get_or row i 0
-      go i (inl z) b = let w : i ≡ q = eqb-true i q z in rw w e
-      go i (inr z) b = u.same i (omega (arith, eqb-false i q z))
-
-  pub sames_end : {q : ℕ} {b : Bool} → Sames cs k row n q → n ≤ q → b ≡ true → b ≡ matches cs k (places_in row 0 n)
-  sames_end {q} u h e =
-      e ∙ sym (matches_all cs k (places_in row 0 n)
-      (λ j i p b. let c : j < n = omega (arith, length_tabulate (entry_at row) n 0) in rw p (u.same j (omega (arith, u.high)) ∙ sym (place_read row n j c))))
-
-  pub sames_stop : {q : ℕ} {b : Bool} → Sames cs k row n q → q < n → (get_or cs (k + q) 0 ≡ get_or row q 0 → ⊥) → b ≡ false → b ≡ matches cs k (places_in row 0 n)
-  sames_stop {q} u h d e =
-      e ∙ sym (never_true (matches cs k (places_in row 0 n))
-      (λ t. d (matches_told cs k (places_in row 0 n) t q (k + q) refl (omega (arith, length_tabulate (entry_at row) n 0)) ∙ place_read row n q h)))
-
 -- ---- rows, one behind another
 
 -- the first r of n rows stand there, and k columns belong to them

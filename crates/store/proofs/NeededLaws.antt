@@ -8,10 +8,10 @@ use mathlib.Core.List.{List}
 use borrow.Author.Tests.{lt-ltb}
 use lib.Dec.{ltb}
 use lib.ListN.{length, get_or}
+use Rattle.std.specs.Prelude.{Option, Some, None, Ok, Err, Result as Answer}
 use Rattle.numbers.specs.Lists.{tabulate}
 use Rattle.numbers.proofs.TabulateLaws.{tabulate_at_0, tabulate_agree}
 use Rattle.lattice.specs.declared.line.Line.{Line}
-use Rattle.lattice.specs.declared.levels.Depth.{Depth}
 use Rattle.lattice.specs.declared.levels.Lines.{Lines}
 use Rattle.store.proofs.LineLaws.{lines_to_lem}
 use Rattle.lattice.specs.Check.{Verdict, accepted, refused, and_then, is_sound, check_stretches}
@@ -24,14 +24,14 @@ use Rattle.store.specs.Setup.{Input, full_of, transfers_of, all_to, names_once}
 use Rattle.store.specs.Phases.{blank_line}
 use Rattle.store.specs.FillSteps.{needs_of}
 use Rattle.store.specs.Handed.{CellsOf}
-use Rattle.store.specs.Needed.{no_needs, no_cells, cells_on, cells_of, line_cells, NeededOf, needed_verdict, levels_verdict}
+use Rattle.store.specs.Needed.{cells_on, cells_of, line_cells, NeededOf, needed_verdict, levels_verdict}
 use Rattle.store.specs.Steps.{answer_of}
 use Rattle.store.specs.declared.Choice.{Choice}
-use Rattle.store.specs.declared.handed.Cells.{Cells}
 use Rattle.store.specs.declared.needs.Needs.{Needs}
 use Rattle.store.specs.declared.needed.Needed.{Needed}
-use Rattle.store.specs.declared.setup.Answer.{Answer}
-use Rattle.store.proofs.SettleLaws.{none_twice}
+use Rattle.store.specs.declared.setup.Refusal.{Refusal}
+use Rattle.store.specs.declared.setup.Refusal.TheVariants.{TooMany}
+use Rattle.store.proofs.SettleLaws.{none_twice, err_refused}
 
 -- ---- the cells of the lines that the level loop found
 
@@ -63,7 +63,7 @@ cells_own l m few =
     }
 
 -- they are those of the levels
-pub lines_are_to : {l : FullLattice} {coarsest n : ℕ} {r : Lines} → Joined l coarsest r → r.depth ≡ Depth.Levels n → 0 < n → r.lines ≡ lines_to l (suc (n - 1))
+pub lines_are_to : {l : FullLattice} {coarsest n : ℕ} {r : Lines} → Joined l coarsest r → r.depth ≡ Some n → 0 < n → r.lines ≡ lines_to l (suc (n - 1))
 lines_are_to {l} {coarsest} {n} j e h =
     let z : suc (n - 1) ≡ n = omega arith in
     lines_to_lem l coarsest (n - 1) j (sym j.depth_is ∙ ap depth_verdict e ∙ ap accepted (sym z))
@@ -71,54 +71,49 @@ lines_are_to {l} {coarsest} {n} j e h =
 -- ---- behind the checks
 
 module _ (l : FullLattice) (ch : Choice) (m : ℕ) where
-  -- refused: nothing is needed
-  pub needed_none : {v : Verdict} {a : Answer} {n : Needs} {c : Cells} → answer_of a ≡ v → is_sound v ≡ false → n ≡ no_needs → c ≡ no_cells
-      → NeededOf l ch m v (record { answer = a; needs = n; cells = c })
-  needed_none e f p q = record { answer_is = e; needs_are = rw f p; cells_are = rw f q }
+  -- refused: there are no needs
+  pub needed_none : {v : Verdict} {e : Refusal} → answer_of (Err e) ≡ v → NeededOf l ch m v (Err e)
+  needed_none e = record { answer_is = e; needs_are = tt; cells_are = tt }
 
   pub needed_all : Limits l.grid → {lines : List Line} {n : Needs} {vs : List ℕ} → lines ≡ lines_to l (suc m) → n ≡ needs_of l ch m → vs ≡ tabulate (line_cells lines) 36 0
-      → NeededOf l ch m (and_then (all_to 8 (names_once l) m) (accepted (suc m))) (record { answer = Answer.Levels (m + 1); needs = n; cells = record { levels = m + 1; cells = vs } })
+      → NeededOf l ch m (and_then (all_to 8 (names_once l) m) (accepted (suc m))) (Ok (record { needs = n; cells = record { levels = m + 1; cells = vs } }))
   needed_all limits s p q =
-      let e = none_twice l limits m (accepted (suc m)) in
       let z : m + 1 ≡ suc m = omega arith in
-      let f : is_sound (and_then (all_to 8 (names_once l) m) (accepted (suc m))) ≡ true = ap is_sound (sym e) in
       record {
-        answer_is = ap accepted z ∙ e;
-        needs_are = rw f p;
-        cells_are = rw f (λ i. record { levels = z i; cells = (q ∙ cells_found l m s) i });
+        answer_is = ap accepted z ∙ none_twice l limits m (accepted (suc m));
+        needs_are = p;
+        cells_are = λ i. record { levels = z i; cells = (q ∙ cells_found l m s) i };
       }
 
 module _ (l : FullLattice) (ch : Choice) {d : Verdict} where
-  pub behind_levels : {n : ℕ} {depth : Depth} {r : Needed} → depth_verdict depth ≡ d → depth ≡ Depth.Levels n
+  pub behind_levels : {n : ℕ} {depth : Option ℕ} {r : Answer Needed Refusal} → depth_verdict depth ≡ d → depth ≡ Some n
       → NeededOf l ch (n - 1) (and_then (all_to 8 (names_once l) (n - 1)) (accepted (suc (n - 1)))) r → NeededOf l ch (count_of d - 1) (levels_verdict l d) r
   unfolding levels_verdict
   behind_levels {n} {depth} {r} e q w =
       let k : d ≡ accepted n = sym e ∙ ap depth_verdict q in
       rw k w
 
-  pub behind_none : {depth : Depth} {n : Needs} {c : Cells} → depth_verdict depth ≡ d → depth ≡ Depth.TooMany → n ≡ no_needs → c ≡ no_cells
-      → NeededOf l ch (count_of d - 1) (levels_verdict l d) (record { answer = Answer.TooMany; needs = n; cells = c })
+  pub behind_none : {depth : Option ℕ} → depth_verdict depth ≡ d → depth ≡ None → NeededOf l ch (count_of d - 1) (levels_verdict l d) (Err TooMany)
   unfolding levels_verdict
-  behind_none e q p s =
-      let k : d ≡ depth_verdict Depth.TooMany = sym e ∙ ap depth_verdict q in
-      rw k (needed_none l ch 0 refl refl p s)
+  behind_none e q =
+      let k : d ≡ depth_verdict None = sym e ∙ ap depth_verdict q in
+      rw k (needed_none l ch 0 refl)
 
 -- ---- with the checks
 
 module _ (i : Input) {w : Verdict} (checked : w ≡ check_stretches i.lattice i.xn i.xh i.yn i.yh i.zn i.zh) where
-  pub needs_refused : {a : Answer} {n : Needs} {c : Cells} → answer_of a ≡ w → is_sound w ≡ false → n ≡ no_needs → c ≡ no_cells
-      → NeededOf (full_of i) i.choice (transfers_of i) (needed_verdict i) (record { answer = a; needs = n; cells = c })
+  pub needs_refused : {e : Refusal} → answer_of (Err e) ≡ w → NeededOf (full_of i) i.choice (transfers_of i) (needed_verdict i) (Err e)
   unfolding needed_verdict
-  needs_refused e f p q =
-      let k = first w (and_then (and_then (depth_of (full_of i) i.coarsest) (all_to 8 (names_once (full_of i)) (transfers_of i))) (accepted (suc (transfers_of i)))) f in
-      let v : w ≡ needed_verdict i = sym k ∙ ap (λ (u : Verdict). and_then u (and_then (and_then (depth_of (full_of i) i.coarsest) (all_to 8 (names_once (full_of i)) (transfers_of i))) (accepted (suc (transfers_of i))))) checked in
-      needed_none (full_of i) i.choice (transfers_of i) (e ∙ v) (ap is_sound (sym v) ∙ f) p q
+  needs_refused {e} d =
+      let rest = and_then (and_then (depth_of (full_of i) i.coarsest) (all_to 8 (names_once (full_of i)) (transfers_of i))) (accepted (suc (transfers_of i))) in
+      let f : is_sound w ≡ false = ap is_sound (sym d) ∙ err_refused e in
+      needed_none (full_of i) i.choice (transfers_of i) (d ∙ sym (first w rest f) ∙ ap (λ (u : Verdict). and_then u rest) checked)
     where
       first : (u r : Verdict) → is_sound u ≡ false → and_then u r ≡ u
       first (accepted n) r f = absurd (false≢true (sym f))
       first (refused n p) r f = refl
 
-  pub needs_behind : {l : FullLattice} {r : Needed} → is_sound w ≡ true → l ≡ full_of i
+  pub needs_behind : {l : FullLattice} {r : Answer Needed Refusal} → is_sound w ≡ true → l ≡ full_of i
       → NeededOf l i.choice (count_of (depth_of l i.coarsest) - 1) (levels_verdict l (depth_of l i.coarsest)) r → NeededOf (full_of i) i.choice (transfers_of i) (needed_verdict i) r
   unfolding needed_verdict levels_verdict
   needs_behind {l} {r} f e q =

@@ -1,13 +1,13 @@
 -- The passes over a level that raise flags: what the code's tables give is what the rows of the level read. Assumes nothing.
-use Prim.Native.Nat.{ℕ, suc, ◌+◌, ◌-◌, ◌≤◌, ◌<◌, ◌^◌}
+use Prim.Native.Nat.{ℕ, suc, ◌+◌, ◌≤◌, ◌<◌, ◌^◌}
 use mathlib.Core.Path.{◌≡◌, refl, sym, ap, subst, ◌∙◌}
-use mathlib.Core.Bool.{Bool, true, false, ◌||◌}
+use mathlib.Core.Bool.{Bool, true}
 use mathlib.Core.List.{List}
 use native.Mathlib.Omega.{arith}
-use lib.ListN.{length, get_or, set, length-set}
+use lib.ListN.{length, get_or, set}
 use lib.Seq.{ext_get_or}
 use Rattle.numbers.specs.declared.terms.Part.{Part}
-use Rattle.numbers.specs.Lists.{tabulate, start_of, any_flag, Marked, entry_at, places_in, Laid}
+use Rattle.numbers.specs.Lists.{tabulate, start_of, Marked, entry_at, places_in, Laid}
 use Rattle.numbers.specs.Terms.{Term, columns_of, Below}
 use Rattle.numbers.proofs.CollectSums.{in_at}
 use Rattle.numbers.proofs.MarkedLaws.{Mutual, marked_as}
@@ -51,14 +51,14 @@ use Rattle.store.specs.FillSteps.{Relations}
 use Rattle.store.specs.Layout.{blank, operator_at, operator_cols}
 use Rattle.store.specs.Phases.{HasLines, three_in}
 use Rattle.store.specs.Work.{RowsAt}
-use Rattle.store.specs.ReachSteps.{Raised, RaisedBy}
+use Rattle.store.specs.ReachSteps.{Raised}
 use Rattle.store.specs.declared.Choice.TheVariants.{Galerkin}
 use Rattle.store.proofs.ColumnLaws.{operator_cols_at}
 use Rattle.store.proofs.EndLaws.{edges_next}
 use Rattle.store.proofs.FoundLaws.{column_is}
 use Rattle.store.proofs.LineLaws.{level_lines, grid_is, both_lines, lines_paired, lines_two}
 use Rattle.store.proofs.PatternLaws.{pattern_cols}
-use Rattle.store.proofs.RaisedLaws.{raised_start, raised_turn, raised_end, raised_as}
+use Rattle.store.proofs.RaisedLaws.{raised_as}
 use Rattle.store.proofs.ScalingLaws.{lattice_at_lem}
 
 -- ---- rows in lists
@@ -77,28 +77,6 @@ module _ {cols : ℕ → List ℕ} {n : ℕ} {o : Part} {ss cs : List ℕ} (w : 
       (λ i b.
       let at : k + i ≡ o.k + (start_of cols r + i) = omega arith in
       tabulate_at (entry_at cs) j k i 0 (omega arith) ∙ rw at (column_is cols n o ss cs w r i h (omega arith)))
-
--- the loop over the rows: the flags of the first r have been raised
-pub record Storing (n : ℕ) (o : Part) (ss cs : List ℕ) (flags xs ys : List Bool) (r : ℕ) : Type 0 where
-  pub long : length ys ≡ length xs
-  pub so_far : (cols : ℕ → List ℕ) → RowsAt cols n o ss cs → Raised r flags cols xs ys
-
-module _ {n : ℕ} {o : Part} {ss cs : List ℕ} {flags xs : List Bool} where
-  pub storing_start : Storing n o ss cs flags xs xs 0
-  storing_start = record { long = refl; so_far = λ cols w. raised_start }
-
-  pub storing_turn : {ys zs : List Bool} {r : ℕ} {b : Bool} → Storing n o ss cs flags xs ys r → r < n → r < length xs → zs ≡ set ys r (get_or ys r false || b)
-      → b ≡ any_flag flags (places_in cs (o.k + get_or ss (o.s + r) 0) (get_or ss (o.s + r + 1) 0 - get_or ss (o.s + r) 0)) → Storing n o ss cs flags xs zs (r + 1)
-  storing_turn {ys} {zs} {r} {b} u h i e f =
-      record {
-        long = ap length e ∙ length-set ys r (get_or ys r false || b) ∙ u.long;
-        so_far = λ cols w.
-            let t = row_starts w r h in
-            raised_turn (u.so_far cols w) i e (f ∙ ap (any_flag flags) (row_places w r h (omega (arith, t.0)) (omega (arith, t.0, t.1))));
-      }
-
-  pub storing_end : {ys : List Bool} {r : ℕ} → Storing n o ss cs flags xs ys r → r ≡ n → RaisedBy n o ss cs flags xs ys
-  storing_end u e = record { raised = λ cols w. raised_end (u.so_far cols w) e }
 
 -- ---- a row of level 0's operator, from the relations
 

@@ -1,9 +1,9 @@
 -- The rows of a transfer worked out anew: what each kind's code asks for and leaves is its rule over the numbers that stand in the lists, whatever these are.
 -- Assumes nothing.
 use Prim.Native.Nat.{ℕ, zero, suc, ◌+◌, ◌*◌, ◌/◌, ◌%◌, ◌≤◌, ◌<◌, ◌^◌}
-use mathlib.Core.Path.{◌≡◌, refl, sym, ap, subst, ◌∙◌}
+use mathlib.Core.Path.{◌≡◌, refl, sym, ap, ◌∙◌}
 use mathlib.Core.List.{List, [], ◌∷◌, map}
-use mathlib.Core.Bool.{Bool, true, false, false≢true}
+use mathlib.Core.Bool.{Bool}
 use native.Mathlib.Omega.{arith}
 use lib.ListN.{length, get_or}
 use lib.Ieee.{Float}
@@ -47,10 +47,10 @@ use Rattle.store.specs.Layout.{forward_cols, turned_cols, next_edges, forward_co
 use Rattle.store.specs.Phases.{HasLines, three_in}
 use Rattle.store.specs.PhaseSteps.{averaged_from}
 use Rattle.store.specs.FillSteps.{offsets_at, only_count}
-use Rattle.store.specs.Rows.{Row, coarse, averaged, forward, turned, eps_in, averaged_in, numbers, level}
+use Rattle.store.specs.Rows.{coarse, averaged, forward, turned, eps_in, averaged_in, numbers, level}
 use Rattle.store.specs.Renewed.{Fixed, Five, five, store_of, FiveRoom, Shaped}
-use Rattle.store.specs.Parts.{row_by, size_by, part_size, part_off, part_count, flag_at, flagged_to, flagged_part}
-use Rattle.store.specs.Flagged.{RowRenewed, RowTaken, PartFlags, PairAt, Taken, RenewedIn, with_eps, with_forward, with_turned, StartsAt, WeightsReady, TurnedReady}
+use Rattle.store.specs.Parts.{row_by, size_by, part_size, part_off, part_count, flagged_to, flagged_part}
+use Rattle.store.specs.Flagged.{PartFlags, PairAt, Made, with_eps, with_forward, with_turned, StartsAt, WeightsReady, TurnedReady}
 use Rattle.store.specs.declared.Choice.{Choice}
 use Rattle.store.specs.declared.Choice.TheVariants.{Galerkin, Rediscretized}
 use Rattle.store.specs.declared.transfers.Offsets.{Offsets}
@@ -61,16 +61,7 @@ use Rattle.store.proofs.ColumnLaws.{turned_many}
 use Rattle.store.proofs.SizeLaws.{edges_few, forward_few, eps_low, starts_low, forward_low, turned_low}
 use Rattle.store.proofs.AveragedLaws.{averaged_low, averaged_apart}
 use Rattle.store.proofs.WorkLaws.{look_from}
-use Rattle.store.proofs.FlaggedLaws.{part_is, part_size_lem, number_laid, number_finite, row_renewed, renewed_none, renewed_go, renewed_stop}
-
--- ---- a row by its flag
-
-module _ (l : FullLattice) (ch : Choice) (m : ℕ) (x : Fixed) (flags : List ℕ) (q : ℕ) (r : Row) where
-  pub row_left : (v : Five) → flag_at flags q ≡ false → RowTaken l ch m x flags q r v true v
-  row_left v e = record { left = λ _. (refl, refl); taken = λ y. absurd (false≢true (sym e ∙ y)) }
-
-  pub row_taken : (v u : Five) (b : Bool) → flag_at flags q ≡ true → RowRenewed l ch m x r v b u → RowTaken l ch m x flags q r v b u
-  row_taken v u b e w = record { left = λ y. absurd (false≢true (sym y ∙ e)); taken = λ _. w }
+use Rattle.store.proofs.FlaggedLaws.{part_is, part_size_lem, number_laid, number_finite, row_renewed}
 
 -- ---- the flags of a part are there
 
@@ -151,39 +142,6 @@ part_none l ch m flags L k h e =
     let base = part_off l ch m (suc (7 * L + k)) in
     sym (part_is l ch m flags base L k h refl) ∙ ap (flagged_to (row_by k L) flags base) e
 
--- ---- the loop, of a function that sees some of the lists only
-
-pub taken_left : (l : FullLattice) (ch : Choice) (m : ℕ) (flags : List ℕ) (q : ℕ) (r : Row) (g : Five → List Float → Five) (v : List Float) → flag_at flags q ≡ false → Taken l ch m flags q r g v true v
-taken_left l ch m flags q r g v e = record { each = λ x w. row_left l ch m x flags q r (g w v) e }
-
-module _ {l : FullLattice} {ch : Choice} {m : ℕ} (L k : ℕ) (flags : List ℕ) (base : ℕ) {g : Five → List Float → Five} where
-  pub rows_none : (v : List Float) → RenewedIn l ch m (flagged_to (row_by k L) flags base 0) g v 0 v
-  rows_none v = record { each = λ x w. renewed_none l ch m x (row_by k L) flags base (g w v) }
-
-  module _ {v u : List Float} (i : ℕ) (a : RenewedIn l ch m (flagged_to (row_by k L) flags base i) g v 0 u) where
-    -- row i, and on
-    pub rows_go : {t : List Float} {b : Bool} → b ≡ true → Taken l ch m flags (base + i) (row_by k L i) g u b t → RenewedIn l ch m (flagged_to (row_by k L) flags base (i + 1)) g v 0 t
-    rows_go {t} {b} e d =
-        let z : i + 1 ≡ suc i = omega arith in
-        let y = subst (λ (b : Bool). Taken l ch m flags (base + i) (row_by k L i) g u b t) e d in
-        rw z (record { each = λ x w. renewed_go l ch m x (row_by k L) flags base i (g w v) (g w u) (g w t) (a.each x w) (y.each x w) })
-
-    module _ (n : ℕ) (h : k < 7) (f : PartFlags l ch m (suc (7 * L + k)) base flags) (s : n ≡ size_by l ch k L) where
-      -- the stop at it
-      pub rows_stop : {t : List Float} {b : Bool} → i < n → b ≡ false → Taken l ch m flags (base + i) (row_by k L i) g u b t
-          → RenewedIn l ch m (flagged_part l ch m flags (suc (7 * L + k))) g v (L + 2) t
-      rows_stop {t} {b} low e d =
-          let z : L + 2 ≡ suc (level l ch m (row_by k L i)) = omega (arith, row_level l ch m k L i) in
-          let y = subst (λ (b : Bool). Taken l ch m flags (base + i) (row_by k L i) g u b t) e d in
-          subst (λ (rs : List Row). RenewedIn l ch m rs g v (L + 2) t) (part_end L k n h f s)
-          (record { each = λ x w. renewed_stop l ch m x (row_by k L) flags base i n (L + 2) (g w v) (g w u) (g w t) low z (a.each x w) (y.each x w) })
-
-      -- the end
-      pub rows_end : i ≤ n → n ≤ i → RenewedIn l ch m (flagged_part l ch m flags (suc (7 * L + k))) g v 0 u
-      rows_end lo hi =
-          let z : i ≡ n = omega arith in
-          subst (λ (rs : List Row). RenewedIn l ch m rs g v 0 u) (ap (flagged_to (row_by k L) flags base) z ∙ part_end L k n h f s) a
-
 -- ---- levels L and L + 1
 
 module _ {l : FullLattice} {L : ℕ} {fine next : Three} {nn : List ℕ} (p : PairAt l L fine next nn) where
@@ -252,22 +210,21 @@ module _ {l : FullLattice} {L : ℕ} {fine next : Three} {nn : List ℕ} (p : Pa
       rw (q.fine_grid_lem, q.coarse_grid_lem, q.node_list) (eps_same (two_of l fine next) q.paired.coarse_limits f r coarse_low)
       ∙ ap (λ (t : TwoLevels). coarse_eps t f r) (pair_two p)
 
-  pub coarse_done : (ch : Choice) (m : ℕ) (flags : List ℕ) (i : ℕ) {b : Bool} {eps' : List Float} → flag_at flags i ≡ true
+  pub coarse_done : (ch : Choice) (m : ℕ) {b : Bool} {eps' : List Float}
       → eps' ≡ set_number eps (to + r) (coarse_eps_in gf gc nn (read_from eps from) r) → b ≡ finite (coarse_eps_in gf gc nn (read_from eps from) r)
-      → Taken l ch m flags i (row_by 0 L r) with_eps eps b eps'
+      → Made l ch m (row_by 0 L r) with_eps eps b eps'
   unfolding row_by numbers
-  coarse_done ch m flags i {b} {eps'} s e d =
+  coarse_done ch m {b} {eps'} e d =
       let v = coarse_eps_in gf gc nn (read_from eps from) r in
       let laid_is : eps' ≡ laid_numbers eps (eps_off l (suc L) + r) (v ∷ []) = e ∙ number_laid eps (to + r) v ∙ ap (λ (k : ℕ). laid_numbers eps (k + r) (v ∷ [])) places.1 in
       record {
         each = λ x y.
-            row_taken l ch m x flags i (coarse L r) (with_eps y eps) (with_eps y eps') b s
-            (row_renewed l ch m x (coarse L r) (with_eps y eps) (with_eps y eps') b (v ∷ [])
+            row_renewed l ch m x (coarse L r) (with_eps y eps) (with_eps y eps') b (v ∷ [])
             (λ ends w. ap (λ (g : ℕ → C64). coarse_eps (two_at l L) g r ∷ []) (eps_reader l ch m ends x (with_eps y eps) L ∙ ap (read_from eps) (sym places.0))
             ∙ ap (λ (z : C64). z ∷ []) (sym (coarse_value (read_from eps from))))
             (λ ends j. store_of ends x (with_eps y (laid_is j)))
             (λ ends. omega (arith, room.room, places.1))
-            (d ∙ number_finite v));
+            (d ∙ number_finite v);
       }
 
 -- an averaged one
@@ -277,22 +234,21 @@ module _ {l : FullLattice} {L : ℕ} {fine next : Three} {nn : List ℕ} (p : Pa
       × (ChainRoom (unknowns_of (fine_grid (two_of l fine next))) (unknowns_of (coarse_grid (two_of l fine next))) from to eps)))
   averaged_asked = (pair_lines p, (pair_nodes p, (omega (arith, pair_coarse p), pair_room p room)))
 
-  pub averaged_done : (ch : Choice) (flags : List ℕ) (i : ℕ) {b : Bool} {eps' : List Float} → flag_at flags i ≡ true
+  pub averaged_done : (ch : Choice) {b : Bool} {eps' : List Float}
       → eps' ≡ set_number eps (to + r) (averaged_eps (two_of l fine next) (read_from eps from) r) → b ≡ finite (averaged_eps (two_of l fine next) (read_from eps from) r)
-      → Taken l ch m flags i (row_by 1 L r) with_eps eps b eps'
+      → Made l ch m (row_by 1 L r) with_eps eps b eps'
   unfolding row_by numbers
-  averaged_done ch flags i {b} {eps'} s e d =
+  averaged_done ch {b} {eps'} e d =
       let v = averaged_eps (two_of l fine next) (read_from eps from) r in
       let laid_is : eps' ≡ laid_numbers eps (averaged_off l m L + r) (v ∷ []) = e ∙ number_laid eps (to + r) v ∙ ap (λ (k : ℕ). laid_numbers eps (k + r) (v ∷ [])) places.1 in
       record {
         each = λ x y.
-            row_taken l ch m x flags i (averaged L r) (with_eps y eps) (with_eps y eps') b s
-            (row_renewed l ch m x (averaged L r) (with_eps y eps) (with_eps y eps') b (v ∷ [])
+            row_renewed l ch m x (averaged L r) (with_eps y eps) (with_eps y eps') b (v ∷ [])
             (λ ends w. ap (λ (g : ℕ → C64). averaged_eps (two_at l L) g r ∷ []) (averaged_reader l ch m ends x (with_eps y eps) L ∙ ap (read_from eps) (sym places.0))
             ∙ ap (λ (t : TwoLevels). averaged_eps t (read_from eps from) r ∷ []) (sym (pair_two p)))
             (λ ends j. store_of ends x (with_eps y (laid_is j)))
             (λ ends. omega (arith, room.room, places.1))
-            (d ∙ number_finite v));
+            (d ∙ number_finite v);
       }
 
 -- ---- the places of a level's permittivities
@@ -348,22 +304,21 @@ module _ (l : FullLattice) (L : ℕ) {first : ℕ} {starts : List ℕ} (w : Star
         × (2 * (k + get_or starts (first + r) 0 + count_in ns (at_of s.fine r)) ≤ length values)))
     forward_asked = (t.span, (omega (arith, t.fine_is), (start_small k h.1, omega (arith, t.counts_are r low, forward_place, h.2))))
 
-    pub forward_done : (ch : Choice) (m : ℕ) (flags : List ℕ) (i : ℕ) {b : Bool} {values' : List Float} → flag_at flags i ≡ true
-        → RowLaid s ps ds ns xs eps values (k + get_or starts (first + r) 0) r b values' → Taken l ch m flags i (row_by 2 L r) (with_forward eps) values b values'
+    pub forward_done : (ch : Choice) (m : ℕ) {b : Bool} {values' : List Float}
+        → RowLaid s ps ds ns xs eps values (k + get_or starts (first + r) 0) r b values' → Made l ch m (row_by 2 L r) (with_forward eps) values b values'
     unfolding row_by numbers
-    forward_done ch m flags i {b} {values'} e d =
+    forward_done ch m {b} {values'} d =
         let vs = weight_numbers (two_at l L) (read_from eps (eps_off l L)) (read_from eps (eps_off l (suc L))) r in
         let at_is : k + get_or starts (first + r) 0 ≡ forward_off l L + start_of (forward_cols l L) r = omega (arith, h.0, forward_start) in
         let laid_is : values' ≡ laid_numbers values (forward_off l L + start_of (forward_cols l L) r) vs = d.numbers_are ∙ (λ j. laid_numbers values (at_is j) (t.rows_are r low j)) in
         record {
           each = λ x y.
-              row_taken l ch m x flags i (forward L r) (with_forward eps y values) (with_forward eps y values') b e
-              (row_renewed l ch m x (forward L r) (with_forward eps y values) (with_forward eps y values') b vs
+              row_renewed l ch m x (forward L r) (with_forward eps y values) (with_forward eps y values') b vs
               (λ ends w. (λ j. numbers_of (prolongation_row (two_at l L) (eps_reader l ch m ends x (with_forward eps y values) L j) (eps_reader l ch m ends x (with_forward eps y values) (suc L) j) r))
               ∙ sym (weight_numbers_is (two_at l L) (read_from eps (eps_off l L)) (read_from eps (eps_off l (suc L))) r))
               (λ ends j. store_of ends x (with_forward eps y (laid_is j)))
               (λ ends. omega (arith, h.0, h.2, forward_start, forward_place))
-              (d.finite ∙ ap all_finite (t.rows_are r low)));
+              (d.finite ∙ ap all_finite (t.rows_are r low));
         }
 
 -- ---- the tables of a transfer
@@ -443,22 +398,21 @@ module _ {l : FullLattice} {L n : ℕ} {o : Offsets} {ss cs : List ℕ} {xs : Li
           ),
         )
 
-    pub turned_done : (ch : Choice) (m : ℕ) (flags : List ℕ) (i : ℕ) {b : Bool} {ys' : List Float} → flag_at flags i ≡ true
-        → TurnedPut ss o.s cs xs o.k n ts o.ts us ys o.tk c b ys' → Taken l ch m flags i (row_by 3 L c) (with_turned xs) ys b ys'
+    pub turned_done : (ch : Choice) (m : ℕ) {b : Bool} {ys' : List Float}
+        → TurnedPut ss o.s cs xs o.k n ts o.ts us ys o.tk c b ys' → Made l ch m (row_by 3 L c) (with_turned xs) ys b ys'
     unfolding row_by numbers
-    turned_done ch m flags i {b} {ys'} e d =
+    turned_done ch m {b} {ys'} d =
         let vs = map (read_from xs o.k) (turned_reads (forward_cols l L) n c) in
         let reads_are : vs ≡ map (read_from xs (forward_off l L)) (turned_reads (forward_cols l L) (edges_on l L) c) =
         (λ j. map (read_from xs (w.offsets j).k) (turned_reads (forward_cols l L) (w.count j) c)) in
         let laid_is : ys' ≡ laid_numbers ys (turned_off l L + start_of (turned_cols l L) c) vs = d.numbers_are (forward_cols l L) turnable ∙ ap (λ (k : ℕ). laid_numbers ys k vs) row_begin in
         record {
           each = λ x y.
-              row_taken l ch m x flags i (turned L c) (with_turned xs y ys) (with_turned xs y ys') b e
-              (row_renewed l ch m x (turned L c) (with_turned xs y ys) (with_turned xs y ys') b vs
+              row_renewed l ch m x (turned L c) (with_turned xs y ys) (with_turned xs y ys') b vs
               (λ ends z. (λ j. map (λ (k : ℕ). look_from (store_of ends x (with_turned xs y ys)) forwards (forward_off l L) k j) (turned_reads (forward_cols l L) (edges_on l L) c)) ∙ sym reads_are)
               (λ ends j. store_of ends x (with_turned xs y (laid_is j)))
               (λ ends. omega (arith, room, start_room (turned_cols l L) (edges_on l (suc L)) c low))
-              (d.finite (forward_cols l L) turnable));
+              (d.finite (forward_cols l L) turnable);
         }
 
 -- ---- all of it from what refusal 11 has tested

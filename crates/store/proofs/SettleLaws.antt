@@ -9,6 +9,7 @@ use lib.Dec.{eqb}
 use lib.ListN.{length, replicate}
 use lib.Ieee.{Float}
 use borrow.Author.Tests.{eq-eqb, ne_eqb}
+use Rattle.std.specs.Prelude.{Option, Some, None, unwrap_or, Ok, Err, is_ok, Result as Answer}
 use Rattle.numbers.specs.declared.C64.{C64}
 use Rattle.numbers.specs.Complex.{zero_f}
 use Rattle.numbers.specs.Lists.{rows, laid_numbers}
@@ -16,28 +17,30 @@ use Rattle.numbers.proofs.ListLaws.{laid_length, laid_numbers_length}
 use Rattle.lattice.specs.Check.{Verdict, accepted, refused, and_then, is_sound, check_of}
 use Rattle.lattice.specs.Grid.{Limits, unknowns_of}
 use Rattle.lattice.specs.Lattice.{FullLattice, Lengths}
-use Rattle.lattice.proofs.CheckLaws.{all_sound}
+use Rattle.lattice.proofs.CheckLaws.{all_sound, refused_unsound}
 use Rattle.operators.proofs.LevelListLaws.{first_edges}
 use Rattle.numbers.specs.Places.{number_at}
-use Rattle.lattice.specs.Levels.{depth_of, count_of, depth_verdict, Joined}
-use Rattle.lattice.specs.declared.levels.Depth.{Depth}
+use Rattle.lattice.specs.Levels.{depth_of, count_of, depth_verdict, levels_refused, Joined}
 use Rattle.lattice.specs.declared.levels.Lines.{Lines}
 use Rattle.lattice.proofs.LevelLaws.{depth_none}
 use Rattle.lattice.specs.declared.line.Line.{Line}
 use Rattle.operators.specs.LevelLists.{edges_on}
-use Rattle.store.specs.Store.{Store, Sizes, sizes, lent, zeroed}
+use Rattle.store.specs.Store.{Store, Sizes, sizes, zeroed}
 use Rattle.store.specs.Layout.{Enough, eps_off}
 use Rattle.store.specs.Setup.{Input, full_of, setup_of, Result, result_of, unless, filled, all_to, names_once, short_of, level_fine, ends_part, eps_part, averaged_part, forward_starts_of, forward_cols_of, forward_numbers, turned_starts_of, turned_cols_of, turned_numbers, operator_starts_of, operator_cols_of, operator_numbers, scale_part, only_numbers}
 use Rattle.store.specs.Phases.{HasLines}
 use Rattle.store.specs.FillSteps.{numbered}
-use Rattle.store.specs.PhaseSteps.{ThreeZeroed}
 use Rattle.store.proofs.VerdictLaws.{enough_told}
 use Rattle.store.proofs.LineLaws.{has_lines}
 use Rattle.store.proofs.NeedLaws.{never_twice}
 use Rattle.lattice.proofs.LatticeLaws.{lattice_grid}
 use Rattle.store.specs.Steps.{answer_of, filling, code_of, fill_of, LinesFound, m_of, structure_by, settled_of}
 use Rattle.store.specs.declared.Choice.{Choice}
-use Rattle.store.specs.declared.setup.Answer.TheVariants.{TooMany}
+use Rattle.store.specs.ChangeSteps.{changed_of}
+use Rattle.store.specs.declared.change.Refusal.{Refusal as ChangeRefusal}
+use Rattle.store.specs.declared.change.Refusal.TheVariants.{Setup, NoEdge, BadValue, Differs}
+use Rattle.store.specs.declared.setup.Refusal.{Refusal}
+use Rattle.store.specs.declared.setup.Refusal.TheVariants.{Input as OfInput, TooMany, Twice, Short, NotFinite}
 
 -- ---- the lines that the level loop found
 
@@ -155,6 +158,9 @@ module _ (l : FullLattice) (ch : Choice) (coarsest : ℕ) (f : ℕ → C64) (b :
       let q : v ≡ and_then x y = w ∙ sym (and_last x y (suc (m_of l coarsest)) (ap is_sound (sym w) ∙ e)) in
       (λ i. result_of (q i) (z i)) ∙ unless_refused (and_then x y) (zeroed b) _ (ap is_sound (sym q) ∙ e)
 
+  pub settled_none : (r : Result) → is_sound v ≡ false → unless v (zeroed b) r ≡ settled_of l ch coarsest f b
+  settled_none r e = sym (unless_refused v (zeroed b) r e) ∙ settled_refused e refl
+
   module _ (e : is_sound v ≡ true) {bad : ℕ} {t : Store} (done : filling bad t ≡ fill_of l ch (m_of l coarsest) f b) where
     goes : (settled_of l ch coarsest f b ≡ unless (all_to 7 (level_fine l ch (m_of l coarsest) f) (suc (m_of l coarsest))) (zeroed b) (result_of (accepted (suc (m_of l coarsest))) (filled l ch (m_of l coarsest) f b)))
         × (v ≡ accepted (suc (m_of l coarsest)))
@@ -186,11 +192,39 @@ module _ (l : FullLattice) (ch : Choice) (coarsest : ℕ) (f : ℕ → C64) (b :
         (λ i. result_of (goes.1 i) (store_is i))
         ∙ sym (goes.0 ∙ ap (λ (u : Verdict). unless u (zeroed b) (result_of (accepted (suc (m_of l coarsest))) (filled l ch (m_of l coarsest) f b))) q)
 
-    pub settled_bad : (bad ≡ 0 → ⊥) → {t' : Store} → t' ≡ zeroed t → result_of (refused 7 (bad - 1)) t' ≡ settled_of l ch coarsest f b
-    settled_bad n z =
-        let q : seven ≡ refused 7 (bad - 1) = seven_is ∙ ap (λ (x : Bool). cond x (accepted 0) (refused 7 (bad - 1))) (ne_eqb bad 0 n) in
-        ap (result_of (refused 7 (bad - 1))) (z ∙ ap zeroed store_is ∙ filled_zeroed l ch (m_of l coarsest) f b)
+    pub settled_bad : {level : ℕ} → bad ≡ suc level → {t' : Store} → t' ≡ zeroed t → result_of (refused 7 level) t' ≡ settled_of l ch coarsest f b
+    settled_bad {level} n z =
+        let p : bad - 1 ≡ level = omega arith in
+        let q : seven ≡ refused 7 level = seven_is ∙ ap (λ (x : Bool). cond x (accepted 0) (refused 7 (bad - 1))) (ne_eqb bad 0 (λ o. omega arith)) ∙ ap (refused 7) p in
+        ap (result_of (refused 7 level)) (z ∙ ap zeroed store_is ∙ filled_zeroed l ch (m_of l coarsest) f b)
         ∙ sym (goes.0 ∙ ap (λ (u : Verdict). unless u (zeroed b) (result_of (accepted (suc (m_of l coarsest))) (filled l ch (m_of l coarsest) f b))) q)
+
+-- a refusal is none
+pub err_refused : (e : Refusal) → is_sound (answer_of (Err e)) ≡ false
+err_refused (OfInput c) = refused_unsound c
+err_refused TooMany = refl
+err_refused (Twice level) = refl
+err_refused (Short list) = refl
+err_refused (NotFinite level) = refl
+
+pub change_refused : (e : ChangeRefusal) → is_sound (changed_of (Err e)) ≡ false
+change_refused (Setup r) = err_refused r
+change_refused (NoEdge edge) = refl
+change_refused (BadValue edge) = refl
+change_refused (Differs level) = refl
+
+pub sound_ok : (a : Answer ℕ Refusal) → is_ok a ≡ is_sound (answer_of a)
+sound_ok (Ok n) = refl
+sound_ok (Err e) = sym (err_refused e)
+
+-- what is left after a refusal, and else
+pub settled_err : (a : Answer ℕ Refusal) (s : Store) {t : Store} {r : Result} → is_ok a ≡ false → unless (answer_of a) (zeroed s) (result_of (answer_of a) s) ≡ r → t ≡ zeroed s → result_of (answer_of a) t ≡ r
+settled_err (Ok n) s e u z = absurd (false≢true (sym e))
+settled_err (Err w) s e u z = ap (result_of (answer_of (Err w))) z ∙ unless_refused (answer_of (Err w)) (zeroed s) _ (err_refused w) ∙ u
+
+pub settled_ok : (a : Answer ℕ Refusal) (s : Store) {r : Result} → is_ok a ≡ true → unless (answer_of a) (zeroed s) (result_of (answer_of a) s) ≡ r → result_of (answer_of a) s ≡ r
+settled_ok (Ok n) s e u = u
+settled_ok (Err w) s e u = absurd (false≢true e)
 
 -- ---- 5, 8 and 6 as the code finds them
 
@@ -203,36 +237,19 @@ module _ (l : FullLattice) (limits : Limits l.grid) (m : ℕ) {v : Verdict} {s :
       let z : m + 1 ≡ suc m = omega arith in
       ap accepted z ∙ none_short short (accepted (suc m)) e ∙ none_twice l limits m (and_then v (accepted (suc m)))
 
-module _ (l : FullLattice) (ch : Choice) {depth : Depth} (h : Sizes) where
-  pub structure_found : {n : ℕ} {v : Verdict} → depth ≡ Depth.Levels n
+module _ (l : FullLattice) (ch : Choice) {depth : Option ℕ} (h : Sizes) where
+  pub structure_found : {n : ℕ} {v : Verdict} → depth ≡ Some n
       → v ≡ and_then (all_to 8 (names_once l) (n - 1)) (and_then (short_of l ch (n - 1) h) (accepted (suc (n - 1)))) → v ≡ structure_by l ch (depth_verdict depth) h
   unfolding structure_by
   structure_found e q = rw e q
 
-  pub structure_none : depth ≡ Depth.TooMany → answer_of TooMany ≡ structure_by l ch (depth_verdict depth) h
+  pub structure_none : depth ≡ None → levels_refused ≡ structure_by l ch (depth_verdict depth) h
   unfolding structure_by
   structure_none e = rw e refl
 
-module _ {depth : Depth} where
-  pub transfers_zero : {n : ℕ} → depth ≡ Depth.Levels n → n ≡ 0 → 0 ≡ count_of (depth_verdict depth) - 1
-  transfers_zero e z = rw (e, z) refl
-
-  pub transfers_less : {n : ℕ} → depth ≡ Depth.Levels n → n - 1 ≡ count_of (depth_verdict depth) - 1
-  transfers_less e = rw e refl
-
-  pub transfers_none : depth ≡ Depth.TooMany → 0 ≡ count_of (depth_verdict depth) - 1
-  transfers_none e = rw e refl
-
--- ---- zero
-
-pub zeroed_is : (b : Store) {e : List ℕ} {p : List Float} {fs fc : List ℕ} {fv : List Float} {ts tc : List ℕ} {tv : List Float} {os oc : List ℕ} {ov sc : List Float}
-    → e ≡ replicate (length b.ends) 0 → p ≡ replicate (length b.permittivities) zero_f → ThreeZeroed b.forward_starts b.forward_columns b.forward_values fs fc fv
-    → ThreeZeroed b.turned_starts b.turned_columns b.turned_values ts tc tv → ThreeZeroed b.operator_starts b.operator_columns b.operator_values os oc ov
-    → sc ≡ replicate (length b.scaling) zero_f → lent e p fs fc fv ts tc tv os oc ov sc ≡ zeroed b
-zeroed_is b x y f t o z =
-    λ i.
-    lent (x i) (y i) (f.starts_are i) (f.columns_are i) (f.values_are i) (t.starts_are i) (t.columns_are i) (t.values_are i)
-    (o.starts_are i) (o.columns_are i) (o.values_are i) (z i)
+pub transfers_are : (depth : Option ℕ) → unwrap_or depth 0 - 1 ≡ count_of (depth_verdict depth) - 1
+transfers_are None = refl
+transfers_are (Some n) = refl
 
 -- ---- what the fill asks for, and its m
 
@@ -241,19 +258,19 @@ and_short (accepted a) (accepted b) n e = refl
 and_short (accepted a) (refused b p) n e = e
 and_short (refused a p) y n e = absurd (false≢true e)
 
-module _ {l : FullLattice} {ch : Choice} {depth : Depth} {lines : List Line} {m : ℕ} {h : Sizes} {v : Verdict} (held : LinesFound l depth lines)
+module _ {l : FullLattice} {ch : Choice} {depth : Option ℕ} {lines : List Line} {m : ℕ} {h : Sizes} {v : Verdict} (held : LinesFound l depth lines)
     (count : m ≡ count_of (depth_verdict depth) - 1) (found : v ≡ structure_by l ch (depth_verdict depth) h) (e : is_sound v ≡ true) where
   pub fill_asked : (m ≤ 11) × HasLines l m lines × Enough l ch m h
   unfolding structure_by
   fill_asked = go depth refl
     where
-      go : (d : Depth) → depth ≡ d → (m ≤ 11) × HasLines l m lines × Enough l ch m h
-      go (Depth.Levels n) q =
+      go : (d : Option ℕ) → depth ≡ d → (m ≤ 11) × HasLines l m lines × Enough l ch m h
+      go (Some n) q =
           let k = held.held n q in
-          let z : m ≡ n - 1 = count ∙ ap (λ (d : Depth). count_of (depth_verdict d) - 1) q in
-          let s : is_sound (structure_by l ch (accepted n) h) ≡ true = ap is_sound (sym (found ∙ ap (λ (d : Depth). structure_by l ch (depth_verdict d) h) q)) ∙ e in
+          let z : m ≡ n - 1 = count ∙ ap (λ (d : Option ℕ). count_of (depth_verdict d) - 1) q in
+          let s : is_sound (structure_by l ch (accepted n) h) ≡ true = ap is_sound (sym (found ∙ ap (λ (d : Option ℕ). structure_by l ch (depth_verdict d) h) q)) ∙ e in
           (omega (arith, k.1), rw z k.2, rw z (enough_told l ch (n - 1) h (and_short (all_to 8 (names_once l) (n - 1)) (short_of l ch (n - 1) h) (suc (n - 1)) s)))
-      go Depth.TooMany q = absurd (false≢true (ap is_sound (sym (found ∙ ap (λ (d : Depth). structure_by l ch (depth_verdict d) h) q)) ∙ e))
+      go None q = absurd (false≢true (ap is_sound (sym (found ∙ ap (λ (d : Option ℕ). structure_by l ch (depth_verdict d) h) q)) ∙ e))
 
 pub fill_at : (l : FullLattice) (ch : Choice) (coarsest : ℕ) (f : ℕ → C64) (b : Store) {m bad : ℕ} {t : Store} {d : Verdict} → d ≡ depth_of l coarsest → m ≡ count_of d - 1
     → filling bad t ≡ fill_of l ch m f b → filling bad t ≡ fill_of l ch (m_of l coarsest) f b

@@ -1,12 +1,10 @@
 -- Inverse shares worked out anew where they are flagged.
 -- Assumes nothing.
 use Prim.Native.Nat.{ℕ, suc, ◌+◌, ◌*◌, ◌≤◌, ◌<◌, ◌^◌}
-use mathlib.Core.Path.{◌≡◌, refl, sym, ap, ◌∙◌}
+use mathlib.Core.Path.{◌≡◌, ap, ◌∙◌}
 use mathlib.Core.List.{List, [], ◌∷◌}
-use mathlib.Core.Bool.{Bool, true, false, not, false≢true}
+use mathlib.Core.Bool.{Bool}
 use native.Mathlib.Omega.{arith}
-use native.Mathlib.Numerals.{add-one}
-use borrow.Author.Tests.{not-true, not-false}
 use lib.ListN.{length}
 use lib.Ieee.{Float}
 use Rattle.numbers.specs.declared.C64.{C64}
@@ -23,16 +21,15 @@ use Rattle.operators.proofs.ShareFine.{share_fine}
 use Rattle.store.specs.Layout.{turned_cols, scale_count, scale_off}
 use Rattle.store.specs.Phases.{turned_part}
 use Rattle.store.specs.Rows.{share, from}
-use Rattle.store.specs.Parts.{flag_at, flagged_to}
 use Rattle.store.specs.Renewed.{fixed, five, store_of}
-use Rattle.store.specs.RenewSteps.{TurnedRows, SharePlaces, ShareTaken, SharesRenewed}
+use Rattle.store.specs.RenewSteps.{TurnedRows, SharePlaces, ShareMade}
 use Rattle.store.specs.declared.Choice.TheVariants.{Rediscretized}
 use Rattle.store.proofs.RangeLaws.{ranges}
 use Rattle.store.proofs.FoundLaws.{rows_stored, share_found}
 use Rattle.store.proofs.SmallLaws.{turned_small}
 use Rattle.store.proofs.ScalingLaws.{scale_low}
 use Rattle.numbers.proofs.PartLaws.{part_room}
-use Rattle.store.proofs.FlaggedLaws.{number_laid, number_finite, row_renewed, renewed_none, renewed_go, renewed_stop}
+use Rattle.store.proofs.FlaggedLaws.{number_laid, number_finite, row_renewed}
 
 -- ---- one share
 
@@ -54,14 +51,11 @@ module _ {l : FullLattice} (limits : Limits l.grid) {m L : ℕ} (deep : (L < m) 
       → (Stored ts t.s tc tv t.k c n) × ((i < c) × (k ≤ 2 ^ 32) × (k + n ≤ k + n) × (2 * (k + n + c) ≤ length sc))
   share_asked sc room i h = (share_stored, (h, omega (arith, place_low), omega arith, share_room sc room))
 
-  module _ (flags : List ℕ) (q i : ℕ) {sc : List Float} where
-    pub share_left : {b : Bool} → b ≡ flag_at flags q → not b ≡ true → ShareTaken l m ts tc flags q (share L i) tv sc true sc
-    share_left {b} e h = record { each = λ fs fc os oc e₁ f o. record { left = λ z. (refl, refl); taken = λ z. absurd (false≢true (sym (sym e ∙ not-true b h) ∙ z)) } }
-
-    pub share_taken : 2 * scale_off l m ≤ length sc → i < c → {b ok : Bool} {sc' : List Float} → b ≡ flag_at flags q → not b ≡ false
+  module _ (i : ℕ) {sc : List Float} where
+    pub share_made : 2 * scale_off l m ≤ length sc → i < c → {ok : Bool} {sc' : List Float}
         → (sc' ≡ set_number sc (k + n + i) (inverse_share (rows_in t ts tc tv) (read_from sc k) i)) × (ok ≡ share_finite (rows_in t ts tc tv) (read_from sc k) i)
-        → ShareTaken l m ts tc flags q (share L i) tv sc ok sc'
-    share_taken room low {b} {ok} {sc'} e h d =
+        → ShareMade l m ts tc (share L i) tv sc ok sc'
+    share_made room low {ok} {sc'} d =
         let R : ℕ → List Term = rows_in (turned_part l L) ts tc tv in
         let v : ℕ → C64 = read_from sc (scale_off l L) in
         let y : C64 = inverse_share R v i in
@@ -72,41 +66,9 @@ module _ {l : FullLattice} (limits : Limits l.grid) {m L : ℕ} (deep : (L < m) 
         d.1 ∙ (λ j. share_finite (rows_in (at.turned_is j) ts tc tv) (read_from sc (at.place_is j)) i) ∙ share_fine R v i ∙ number_finite y in
         record {
           each = λ fs fc os oc e₁ f o.
-              record {
-                left = λ z. absurd (false≢true (sym z ∙ (sym e ∙ not-false b h)));
-                taken = λ z.
-                    row_renewed l Rediscretized m (fixed fs fc ts tc os oc) (share L i) (five e₁ f tv o sc) (five e₁ f tv o sc') ok (y ∷ [])
-                    (λ ends u. share_found l Rediscretized m (store_of ends (fixed fs fc ts tc os oc) (five e₁ f tv o sc)) u L i deep.0 (omega (arith, at.coarse_is)))
-                    (λ ends. ap (λ (ys : List Float). store_of ends (fixed fs fc ts tc os oc) (five e₁ f tv o ys)) w)
-                    (λ ends. omega (arith, share_room sc room, p))
-                    g;
-              };
+              row_renewed l Rediscretized m (fixed fs fc ts tc os oc) (share L i) (five e₁ f tv o sc) (five e₁ f tv o sc') ok (y ∷ [])
+              (λ ends u. share_found l Rediscretized m (store_of ends (fixed fs fc ts tc os oc) (five e₁ f tv o sc)) u L i deep.0 (omega (arith, at.coarse_is)))
+              (λ ends. ap (λ (ys : List Float). store_of ends (fixed fs fc ts tc os oc) (five e₁ f tv o ys)) w)
+              (λ ends. omega (arith, share_room sc room, p))
+              g;
         }
-
--- ---- the loop
-
-module _ {l : FullLattice} {m : ℕ} {ts tc : List ℕ} (L : ℕ) (flags : List ℕ) (base : ℕ) {tv sc : List Float} where
-  pub shares_none : SharesRenewed l m ts tc (flagged_to (share L) flags base 0) tv sc 0 sc
-  shares_none = record { each = λ fs fc os oc e f o. renewed_none l Rediscretized m (fixed fs fc ts tc os oc) (share L) flags base (five e f tv o sc) }
-
-  pub shares_next : (i : ℕ) {b : Bool} {sc₁ sc₂ : List Float} → b ≡ true → SharesRenewed l m ts tc (flagged_to (share L) flags base i) tv sc 0 sc₁
-      → ShareTaken l m ts tc flags (base + i) (share L i) tv sc₁ b sc₂ → SharesRenewed l m ts tc (flagged_to (share L) flags base (i + 1)) tv sc 0 sc₂
-  shares_next i {b} {sc₁} {sc₂} h p q =
-      rw (add-one i) (record {
-        each = λ fs fc os oc e f o.
-            renewed_go l Rediscretized m (fixed fs fc ts tc os oc) (share L) flags base i (five e f tv o sc) (five e f tv o sc₁) (five e f tv o sc₂) (p.each fs fc os oc e f o)
-            (rw h at (q.each fs fc os oc e f o));
-      })
-
-  pub shares_stop : (i n : ℕ) {b : Bool} {sc₁ sc₂ : List Float} → i < n → b ≡ false → SharesRenewed l m ts tc (flagged_to (share L) flags base i) tv sc 0 sc₁
-      → ShareTaken l m ts tc flags (base + i) (share L i) tv sc₁ b sc₂ → SharesRenewed l m ts tc (flagged_to (share L) flags base n) tv sc (L + 2) sc₂
-  shares_stop i n {b} {sc₁} {sc₂} k h p q =
-      record {
-        each = λ fs fc os oc e f o.
-            renewed_stop l Rediscretized m (fixed fs fc ts tc os oc) (share L) flags base i n (L + 2) (five e f tv o sc) (five e f tv o sc₁) (five e f tv o sc₂) k (omega arith)
-            (p.each fs fc os oc e f o) (rw h at (q.each fs fc os oc e f o));
-      }
-
-  pub shares_end : (i n : ℕ) {sc₁ : List Float} → i ≤ n → n ≤ i → SharesRenewed l m ts tc (flagged_to (share L) flags base i) tv sc 0 sc₁
-      → SharesRenewed l m ts tc (flagged_to (share L) flags base n) tv sc 0 sc₁
-  shares_end i n h k p = let e : i ≡ n = omega arith in rw e at p

@@ -2,10 +2,13 @@
 -- Assumes nothing.
 use Prim.Native.Nat.{ℕ, suc, ◌*◌, ◌/◌, ◌≤◌, ◌<◌}
 use mathlib.Core.Path.{◌≡◌, refl, sym, ap, ◌∙◌}
-use mathlib.Core.Bool.{Bool, true, false, ◌&&◌}
+use mathlib.Core.Bool.{Bool, true, false, not, ◌&&◌}
+use mathlib.Core.List.{[], ◌∷◌}
 use native.Mathlib.Omega.{arith}
 use lib.Dec.{leb}
 use borrow.Author.Tests.{le-leb, lt-leb, leb-true}
+use Rattle.std.specs.Prelude.{unwrap_or}
+use Rattle.std.specs.List.{position}
 use Rattle.lattice.specs.Check.{and_then}
 use Rattle.lattice.specs.Grid.{Limits}
 use Rattle.lattice.specs.Lattice.{FullLattice}
@@ -32,6 +35,16 @@ short_verdict true true true false e f = refl
 short_verdict true true true true false f = refl
 short_verdict true true true true true false = refl
 short_verdict true true true true true true = refl
+
+-- as the code looks for it
+pub short_found : (a b c d e f : Bool) → unwrap_or (position not (a ∷ (b ∷ (c ∷ (d ∷ (e ∷ (f ∷ []))))))) 6 ≡ first_short a b c d e f
+short_found false b c d e f = refl
+short_found true false c d e f = refl
+short_found true true false d e f = refl
+short_found true true true false e f = refl
+short_found true true true true false f = refl
+short_found true true true true true false = refl
+short_found true true true true true true = refl
 
 none_short : (a b c d e f : Bool) → first_short a b c d e f ≡ 6 → (a ≡ true) × (b ≡ true) × (c ≡ true) × (d ≡ true) × (e ≡ true) × (f ≡ true)
 none_short false b c d e f h = absurd (omega arith)

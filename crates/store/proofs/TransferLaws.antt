@@ -1,17 +1,20 @@
 -- What one level's transfer asks for and leaves, and the parts of the levels one behind another.
 -- Assumes nothing.
-use Prim.Native.Nat.{ℕ, suc, ◌+◌, ◌*◌, ◌≤◌, ◌<◌, ◌^◌}
+use Prim.Native.Nat.{ℕ, zero, suc, ◌+◌, ◌*◌, ◌≤◌, ◌<◌, ◌^◌}
 use mathlib.Core.Path.{◌≡◌, refl, sym, ap, ◌∙◌}
 use mathlib.Core.Bool.{Bool}
-use mathlib.Core.List.{List, ◌++◌}
+use mathlib.Core.List.{List, [], ◌∷◌, ◌++◌}
 use native.Mathlib.Omega.{arith}
-use lib.ListN.{length, get_or, set}
-use lib.Ieee.{Float}
+use native.Mathlib.Numerals.{add-one}
+use lib.ListN.{length, get_or, set, take, drop, length-append, length-drop}
+use lib.Seq.{length-take-le, take-suc, drop-cons}
+use lib.Ieee.{Float, nan}
 use Rattle.numbers.specs.declared.C64.{C64}
 use Rattle.numbers.specs.declared.terms.Part.{Part}
 use Rattle.numbers.specs.Complex.{no_number}
 use Rattle.numbers.specs.Places.{number_at, set_number}
 use Rattle.numbers.specs.Lists.{rows, laid, laid_numbers, read_from, start_of, tabulate}
+use Rattle.numbers.proofs.Laws.{set_inside}
 use Rattle.numbers.proofs.Equations.{rows_zero, rows_suc, read_from_is, laid_by_nil}
 use Rattle.numbers.proofs.ListLaws.{laid_length, laid_numbers_length, laid_numbers_at, starts_laid_lem}
 use Rattle.numbers.proofs.SumLaws.{sum_to_zero, sum_to_suc}
@@ -28,7 +31,7 @@ use Rattle.weights.specs.Prolongation.{weight_columns}
 use Rattle.operators.specs.LevelLists.{edges_on}
 use Rattle.operators.specs.Levels.{eps_at, forward_at, turned_at}
 use Rattle.operators.proofs.RangeLaws.{fine_edges_lem, coarse_edges_lem}
-use Rattle.operators.proofs.VolumeLaws.{Placing, placing_turn}
+use Rattle.operators.proofs.VolumeLaws.{Placing, placing_start, placing_turn, placing_end}
 use Rattle.operators.proofs.SeamLaws.{TransferLaid, transfer_laid, transfer_finite}
 use Rattle.store.specs.Layout.{forward_cols, turned_cols, next_edges, forward_count, turned_count, eps_off, forward_off, turned_off, starts_off}
 use Rattle.store.specs.Setup.{eps_part, forward_starts_of, forward_cols_of, forward_numbers, turned_starts_of, turned_cols_of, turned_numbers}
@@ -317,9 +320,34 @@ module _ (l : FullLattice) (f : ℕ → C64) (m : ℕ) {eps₀ : List Float} {ss
         let r : (TransfersLeft l f L e ss₀ cs₀ xs₀ ts₀ us₀ ys₀ eps ss cs xs ts us ys) × (bad ≡ first_of (weights_fine l f) L) = (u.left e (given_laid l f e en q), u.bad_is) in
         rw z at r
 
--- a number laid at the front
-pub placing_front : {f : ℕ → C64} {n : ℕ} {xs : List Float} {k : ℕ} {ys zs : List Float} {v : C64} → Placing f n 0 xs ys k → k < n → v ≡ f k → zs ≡ set_number ys k v → Placing f n 0 xs zs (k + 1)
-placing_front {k = k} p h e q = let z : 0 + k ≡ k = omega arith in placing_turn p h e (rw z q)
+-- numbers copied at the front: two doubles written over the two behind a list, and the fronts of two lists number by number
+set_two : (zs : List Float) (y y' x x' : Float) (rs : List Float) → set (set (zs ++ y ∷ (y' ∷ rs)) (length zs) x) (suc (length zs)) x' ≡ ((zs ++ x ∷ []) ++ x' ∷ []) ++ rs
+set_two [] y y' x x' rs = refl
+set_two (z ∷ zs) y y' x x' rs = ap (λ (us : List Float). z ∷ us) (set_two zs y y' x x' rs)
+
+copied_one : (xs ys : List Float) (k : ℕ) → 2 * suc k ≤ length xs → 2 * suc k ≤ length ys
+    → take (2 * suc k) xs ++ drop (2 * suc k) ys ≡ set_number (take (2 * k) xs ++ drop (2 * k) ys) k (number_at xs k)
+unfolding number_at
+copied_one xs ys k h g =
+    let e : 2 * suc k ≡ suc (suc (2 * k)) = omega arith in
+    let o : 2 * k + 1 ≡ suc (2 * k) = omega arith in
+    let l : length (take (2 * k) xs) ≡ 2 * k = length-take-le (2 * k) xs (omega arith) in
+    let t = take-suc xs (2 * k) nan (omega arith) in
+    let t' = take-suc xs (suc (2 * k)) nan (omega arith) in
+    let d = drop-cons ys (2 * k) nan (omega arith) in
+    let d' = drop-cons ys (suc (2 * k)) nan (omega arith) in
+    let s = set_two (take (2 * k) xs) (get_or ys (2 * k) nan) (get_or ys (suc (2 * k)) nan) (get_or xs (2 * k) nan) (get_or xs (suc (2 * k)) nan) (drop (suc (suc (2 * k))) ys) in
+    let p = set_inside (take (2 * k) xs ++ drop (2 * k) ys) k (number_at xs k) (omega (arith, l, length-append (take (2 * k) xs) (drop (2 * k) ys), length-drop (2 * k) ys)) in
+    cc
+
+copied_front : (xs ys : List Float) (n k : ℕ) → k ≤ n → 2 * n ≤ length xs → 2 * n ≤ length ys → Placing (number_at xs) n 0 ys (take (2 * k) xs ++ drop (2 * k) ys) k
+copied_front xs ys n zero o h g = placing_start
+copied_front xs ys n (suc k) o h g =
+    let z : 0 + k ≡ k = omega arith in
+    rw (← add-one k) (placing_turn (copied_front xs ys n k (omega arith) h g) (omega arith) refl (rw (z, add-one) (copied_one xs ys k (omega arith) (omega arith))))
+
+pub copied_is : (xs ys : List Float) (n : ℕ) → 2 * n ≤ length xs → 2 * n ≤ length ys → take (2 * n) xs ++ drop (2 * n) ys ≡ laid_numbers ys 0 (tabulate (number_at xs) n 0)
+copied_is xs ys n h g = placing_end (copied_front xs ys n n (omega arith) h g) (omega arith)
 
 -- what the given permittivities ask for
 pub given_ready : (l : FullLattice) → Limits l.grid → (m : ℕ) (given : List Float) {n : ℕ} {eps : List Float} {ss cs : List ℕ} {xs : List Float} {ts us : List ℕ} {ys : List Float} → n ≡ edges_on l 0

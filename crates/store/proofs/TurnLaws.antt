@@ -200,28 +200,6 @@ module _ (ss : List ℕ) (s : ℕ) (cs : List ℕ) (k : ℕ) {m : ℕ} {us : Lis
   pub rows_end : (r n : ℕ) {next' : List ℕ} → TurnedBy (λ c. rows (named_by ss s cs k c) r) m next us tk count true next' → r ≡ n → TurnedBy (λ c. rows (named_by ss s cs k c) n) m next us tk count true next'
   rows_end r n u e = turned_agree (λ c h. ap (rows (named_by ss s cs k c)) e) u
 
--- ---- whether the rows begin one behind another
-
-module _ {next tss : List ℕ} {ts : ℕ} where
-  pub begin_start : get_or tss ts 0 ≡ 0 → BeginsTo next tss ts 0
-  begin_start e = record { first = e; begins = λ i h. absurd (omega arith) }
-
-  pub begin_turn : {c : ℕ} → BeginsTo next tss ts c → get_or tss (ts + c + 1) 0 ≡ get_or next c 0 → BeginsTo next tss ts (c + 1)
-  begin_turn {c} u e = record { first = u.first; begins = λ i b. go i (bool? (eqb i c)) b }
-    where
-      go : (i : ℕ) → (eqb i c ≡ true) ⊎ (eqb i c ≡ false) → i < c + 1 → get_or tss (ts + i + 1) 0 ≡ get_or next i 0
-      go i (inl z) b = let w : i ≡ c = eqb-true i c z in rw w e
-      go i (inr z) b = u.begins i (omega (arith, eqb-false i c z))
-
-  pub begin_end : {m c : ℕ} → BeginsTo next tss ts c → m ≤ c → Begins next tss ts m true
-  begin_end u h = record { good = λ e. record { first = u.first; begins = λ i b. u.begins i (omega arith) }; bad = λ e w. false≢true (sym e) }
-
-  pub begin_none : {m : ℕ} → (get_or tss ts 0 ≡ 0 → ⊥) → Begins next tss ts m false
-  begin_none h = record { good = λ e. absurd (false≢true e); bad = λ e u. h u.first }
-
-  pub begin_stop : {m c : ℕ} → c < m → (get_or tss (ts + c + 1) 0 ≡ get_or next c 0 → ⊥) → Begins next tss ts m false
-  begin_stop {c = c} b h = record { good = λ e. absurd (false≢true e); bad = λ e u. h (u.begins c b) }
-
 -- ---- the whole: turned rows cols of m, against the walk
 
 module _ {cols : ℕ → List ℕ} {m : ℕ} (t : Part) (tss : List ℕ) {us next next' : List ℕ} {count : ℕ} (at : (c : ℕ) → c < m → get_or next c 0 ≡ get_or tss (t.s + c) 0) (all : start_of cols m ≡ count)
@@ -333,12 +311,3 @@ walk_row {ss} {s} {cs} {k} u {r} h b = (
     u.room,
   ),
 )
-
--- one place more
-pub places_turn : (next tss : List ℕ) (ts : ℕ) {c : ℕ} → ((i : ℕ) → i < c → get_or next i 0 ≡ get_or tss (ts + i) 0) → c < length next
-    → (i : ℕ) → i < c + 1 → get_or (set next c (get_or tss (ts + c) 0)) i 0 ≡ get_or tss (ts + i) 0
-places_turn next tss ts {c} u h i b = go i (bool? (eqb i c)) b
-  where
-    go : (i : ℕ) → (eqb i c ≡ true) ⊎ (eqb i c ≡ false) → i < c + 1 → get_or (set next c (get_or tss (ts + c) 0)) i 0 ≡ get_or tss (ts + i) 0
-    go i (inl z) b = let w : i ≡ c = eqb-true i c z in rw w (get_or-set_same next c (get_or tss (ts + c) 0) 0 h)
-    go i (inr z) b = get_or-set_other next c i (get_or tss (ts + c) 0) 0 (eqb-false i c z) ∙ u i (omega (arith, eqb-false i c z))

@@ -1,6 +1,6 @@
 -- The steps of a change: what its answers mean, the change of one edge, and the change behind the checks of its input.
 -- Assumes nothing.
-use Rattle.std.specs.Prelude.{ℕ, suc, ◌≡◌, List, cond, ltb}
+use Rattle.std.specs.Prelude.{ℕ, suc, ◌≡◌, List, cond, ltb, Ok, Err, Result as Answer}
 use Rattle.std.proofs.Math.Option.{none}
 use Rattle.numbers.specs.declared.C64.{C64}
 use Rattle.lattice.specs.Check.{Verdict, accepted, refused, and_then, bad_number}
@@ -20,15 +20,16 @@ use Rattle.store.specs.Work.{Structured}
 use Rattle.store.specs.Worked.{answer_by}
 use Rattle.store.specs.Renewed.{Fixed, Five, store_of}
 use Rattle.store.specs.declared.Choice.{Choice}
-use Rattle.store.specs.declared.change.Changed.{Changed}
-use Rattle.store.specs.declared.change.Changed.TheVariants.{Answered, NoEdge, BadValue, Differs}
+use Rattle.store.specs.declared.change.Refusal.{Refusal}
+use Rattle.store.specs.declared.change.Refusal.TheVariants.{Setup, NoEdge, BadValue, Differs}
 
 -- what a change's answers mean: the level count, or a refusal's number and place
-abbrev pub changed_of : Changed → Verdict
-changed_of (Answered a) = answer_of a
-changed_of (NoEdge edge) = refused 9 edge
-changed_of (BadValue edge) = refused 10 edge
-changed_of (Differs level) = refused 11 level
+abbrev pub changed_of : Answer ℕ Refusal → Verdict
+changed_of (Ok n) = accepted n
+changed_of (Err (Setup r)) = answer_of (Err r)
+changed_of (Err (NoEdge edge)) = refused 9 edge
+changed_of (Err (BadValue edge)) = refused 10 edge
+changed_of (Err (Differs level)) = refused 11 level
 
 abbrev pub change_to : ℕ → C64 → Change
 change_to edge value = record { edge = edge; value = value }

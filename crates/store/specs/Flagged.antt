@@ -47,8 +47,9 @@ pub record PairAt (l : FullLattice) (L : ℕ) (fine coarse : Three) (nn : List �
 
 -- ---- what a function promises that sees some of the lists only: g puts the list that it writes among the others, whatever these are
 
-pub record Taken (l : FullLattice) (ch : Choice) (m : ℕ) (flags : List ℕ) (q : ℕ) (r : Row) (g : Five → List Float → Five) (v : List Float) (b : Bool) (v' : List Float) : Type 0 where
-  pub each : (x : Fixed) (w : Five) → RowTaken l ch m x flags q r (g w v) b (g w v')
+-- row r worked out anew
+pub record Made (l : FullLattice) (ch : Choice) (m : ℕ) (r : Row) (g : Five → List Float → Five) (v : List Float) (b : Bool) (v' : List Float) : Type 0 where
+  pub each : (x : Fixed) (w : Five) → RowRenewed l ch m x r (g w v) b (g w v')
 
 pub record RenewedIn (l : FullLattice) (ch : Choice) (m : ℕ) (rs : List Row) (g : Five → List Float → Five) (v : List Float) (n : ℕ) (v' : List Float) : Type 0 where
   pub each : (x : Fixed) (w : Five) → Renewed l ch m x rs (g w v) n (g w v')

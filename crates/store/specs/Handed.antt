@@ -1,13 +1,15 @@
 -- Rows handed back (docs/SPECIFICATION.md, 11): which part of a lent list holds a row, for cell counts, starts and lists of any content.
 -- Assumes nothing.
-use Rattle.std.specs.Prelude.{ℕ, zero, suc, ◌+◌, ◌-◌, ◌*◌, ◌/◌, ◌<◌, ◌≤◌, ◌≡◌, Bool, true, ◌&&◌, cond, List, leb, ltb, Float, length, get_or, take, drop}
+use Rattle.std.specs.Prelude.{ℕ, zero, suc, ◌+◌, ◌-◌, ◌*◌, ◌/◌, ◌<◌, ◌≤◌, ◌≡◌, Bool, true, ◌&&◌, cond, List, leb, ltb, Float, length, get_or, take, drop, Option, Some, None}
 use Rattle.numbers.specs.Lists.{sum_to}
 use Rattle.lattice.specs.Lattice.{FullLattice}
 use Rattle.lattice.specs.Levels.{cells_at}
 use Rattle.store.specs.Layout.{starts_off}
 use Rattle.store.specs.declared.handed.Cells.{Cells}
-use Rattle.store.specs.declared.handed.Span.{Span}
-use Rattle.store.specs.declared.handed.Span.TheVariants.{At, Nowhere}
+
+-- where something stands in two lists, or in one from one place up to another; or that it does not
+abbrev pub Span : Type 0
+Span = Option (ℕ × ℕ)
 
 -- ---- levels
 
@@ -45,7 +47,7 @@ terms_off n ss p = sum_to (λ q. start_in n ss q (n q)) p
 
 -- where the starts and the terms of part p begin; the starts before it fit the list of starts, the terms before it the room for terms
 unfoldable pub part_at : (ℕ → ℕ) → List ℕ → ℕ → ℕ → Span
-part_at n ss room p = cond (leb (starts_off n p) (length ss) && leb (terms_off n ss p) room) (At (starts_off n p) (terms_off n ss p)) Nowhere
+part_at n ss room p = cond (leb (starts_off n p) (length ss) && leb (terms_off n ss p) room) (Some (starts_off n p, terms_off n ss p)) None
 
 -- the terms of row r of part p: the part has the row, its start and the next are in the list, in order, and its terms fit the room
 unfoldable pub row_at : (ℕ → ℕ) → List ℕ → ℕ → ℕ → ℕ → Span
@@ -53,8 +55,8 @@ row_at n ss room p r =
     cond
     (ltb r (n p)
     && (ltb (starts_off n p + (r + 1)) (length ss) && (leb (start_in n ss p r) (start_in n ss p (r + 1)) && leb (terms_off n ss p + start_in n ss p (r + 1)) room)))
-    (At (terms_off n ss p + start_in n ss p r) (terms_off n ss p + start_in n ss p (r + 1)))
-    Nowhere
+    (Some (terms_off n ss p + start_in n ss p r, terms_off n ss p + start_in n ss p (r + 1)))
+    None
 
 -- part q has the rows of level q + first
 abbrev pub rows_from : Cells → ℕ → ℕ → ℕ
@@ -62,7 +64,7 @@ rows_from c first q = edges_in c (q + first)
 
 -- the transfer from level L + 1 to L has a part in the forward list, with the rows of level L (first = 0), and one in the turned list (first = 1)
 unfoldable pub transfer_row : Cells → ℕ → List ℕ → ℕ → ℕ → ℕ → Span
-transfer_row c first ss room L r = cond (levels_there c (L + 2)) (row_at (rows_from c first) ss room L r) Nowhere
+transfer_row c first ss room L r = cond (levels_there c (L + 2)) (row_at (rows_from c first) ss room L r) None
 
 -- as the caller chooses: of the turned list or of the forward one, each with its room for terms
 unfoldable pub weight_terms : Cells → Bool → List ℕ → ℕ → List ℕ → ℕ → ℕ → ℕ → Span
@@ -73,7 +75,7 @@ abbrev pub first_of : Cells → ℕ
 first_of c = cond (leb c.levels 1) 0 1
 
 unfoldable pub operator_row : Cells → List ℕ → ℕ → ℕ → ℕ → Span
-operator_row c ss room L r = cond (leb (first_of c) L && levels_there c (L + 1)) (row_at (rows_from c (first_of c)) ss room (L - first_of c) r) Nowhere
+operator_row c ss room L r = cond (leb (first_of c) L && levels_there c (L + 1)) (row_at (rows_from c (first_of c)) ss room (L - first_of c) r) None
 
 -- ---- what is handed back
 
@@ -83,13 +85,13 @@ part_of xs i j = take (j - i) (drop i xs)
 
 -- numbers, two doubles each; the empty front of the forward list where there is no such row
 abbrev pub numbers_handed : List Float → List Float → Span → List Float
-numbers_handed forward xs (At i j) = part_of xs (2 * i) (2 * j)
-numbers_handed forward xs Nowhere = part_of forward 0 0
+numbers_handed forward xs (Some (i, j)) = part_of xs (2 * i) (2 * j)
+numbers_handed forward xs None = part_of forward 0 0
 
 -- columns; the empty front of the list where there is no such row
 abbrev pub columns_handed : List ℕ → Span → List ℕ
-columns_handed cs (At i j) = part_of cs i j
-columns_handed cs Nowhere = part_of cs 0 0
+columns_handed cs (Some (i, j)) = part_of cs i j
+columns_handed cs None = part_of cs 0 0
 
 unfoldable pub weight_row_of : Cells → Bool → List ℕ → List Float → List ℕ → List Float → ℕ → ℕ → List Float
 weight_row_of c turned ss xs ts ys L r = numbers_handed xs (cond turned ys xs) (weight_terms c turned ss (length xs / 2) ts (length ys / 2) L r)

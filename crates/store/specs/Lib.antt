@@ -12,6 +12,7 @@ pub mod Ready
 pub mod Steps
 pub mod Handed
 pub mod Needed
+pub mod Told
 pub mod Spots
 pub mod Rows
 pub mod Changes

@@ -1,9 +1,9 @@
 -- What a setup needs, before it is called (docs/SPECIFICATION.md, 11): the places of each list and the levels' cells.
 -- Assumes nothing.
-use Rattle.std.specs.Prelude.{ℕ, suc, ◌-◌, ◌/◌, ◌%◌, ◌≡◌, cond, List, ltb, get_or, replicate}
+use Rattle.std.specs.Prelude.{ℕ, suc, ◌-◌, ◌/◌, ◌%◌, ◌≡◌, cond, List, ltb, get_or, replicate, Ok, Err, IfOk, Result as Answer}
 use Rattle.numbers.specs.Lists.{tabulate}
 use Rattle.lattice.specs.declared.line.Line.{Line}
-use Rattle.lattice.specs.Check.{Verdict, accepted, and_then, is_sound, check_stretches}
+use Rattle.lattice.specs.Check.{Verdict, accepted, and_then, check_stretches}
 use Rattle.lattice.specs.Lattice.{FullLattice}
 use Rattle.lattice.specs.Levels.{cells_at, count_of}
 use Rattle.store.specs.Setup.{Input, transfers_of, levels_of, all_to, names_once}
@@ -12,13 +12,10 @@ use Rattle.store.specs.FillSteps.{needs_of}
 use Rattle.store.specs.Steps.{answer_of}
 use Rattle.store.specs.declared.Choice.{Choice}
 use Rattle.store.specs.declared.handed.Cells.{Cells}
-use Rattle.store.specs.declared.needs.Needs.{Needs}
 use Rattle.store.specs.declared.needed.Needed.{Needed}
+use Rattle.store.specs.declared.setup.Refusal.{Refusal}
 
--- nothing is needed
-abbrev pub no_needs : Needs
-no_needs = record { ends = 0; eps = 0; starts = 0; terms = 0; tstarts = 0; ostarts = 0; oterms = 0; scaling = 0 }
-
+-- the cells of no level
 abbrev pub no_cells : Cells
 no_cells = record { levels = 0; cells = replicate 36 0 }
 
@@ -33,11 +30,16 @@ cells_of l m = record { levels = suc m; cells = tabulate (cells_on l m) 36 0 }
 abbrev pub line_cells : List Line → ℕ → ℕ
 line_cells lines q = (get_or lines q blank_line).cells
 
--- what the call answers for m transfers, where v is the verdict: needs and cells where nothing is refused
-pub record NeededOf (l : FullLattice) (ch : Choice) (m : ℕ) (v : Verdict) (r : Needed) : Type 0 where
-  pub answer_is : answer_of r.answer ≡ v
-  pub needs_are : r.needs ≡ cond (is_sound v) (needs_of l ch m) no_needs
-  pub cells_are : r.cells ≡ cond (is_sound v) (cells_of l m) no_cells
+-- what the call answers: the level count, or a refusal's number and place
+abbrev pub needed_answer : Answer Needed Refusal → Verdict
+needed_answer (Ok n) = accepted n.cells.levels
+needed_answer (Err e) = answer_of (Err e)
+
+-- for m transfers, where v is the verdict: needs and cells where nothing is refused
+pub record NeededOf (l : FullLattice) (ch : Choice) (m : ℕ) (v : Verdict) (r : Answer Needed Refusal) : Type 0 where
+  pub answer_is : needed_answer r ≡ v
+  pub needs_are : IfOk r (λ n. n.needs ≡ needs_of l ch m)
+  pub cells_are : IfOk r (λ n. n.cells ≡ cells_of l m)
 
 -- refusals 1 to 4 without the permittivities, 5 and 8, or the level count
 unfoldable pub needed_verdict : Input → Verdict

@@ -1,7 +1,6 @@
 -- What the steps of a phase ask for and leave, for whichever lattice and permittivities they hold. Assumes nothing.
-use Rattle.std.specs.Prelude.{ℕ, zero, suc, ◌+◌, ◌*◌, ◌<◌, ◌≤◌, ◌≡◌, Bool, List, length, get_or, replicate, Float}
+use Rattle.std.specs.Prelude.{ℕ, zero, suc, ◌+◌, ◌*◌, ◌<◌, ◌≤◌, ◌≡◌, Bool, List, length, get_or, Float}
 use Rattle.numbers.specs.declared.C64.{C64}
-use Rattle.numbers.specs.Complex.{zero_f}
 use Rattle.numbers.specs.Lists.{tabulate, rows, laid, laid_numbers, places_in, all_finite, read_from}
 use Rattle.numbers.specs.Terms.{Stored, LaidRows}
 use Rattle.numbers.specs.declared.terms.Part.{Part}
@@ -16,14 +15,6 @@ use Rattle.store.specs.Setup.{ends_part, averaged_part, operator_numbers, scale_
 use Rattle.store.specs.Phases.{blank_line, HasLines, turned_part, operator_part, first_of, GivenIn, OperatorsLeft, averaged_fine, scale_fine}
 use Rattle.store.specs.declared.Choice.{Choice}
 use Rattle.store.specs.declared.Choice.TheVariants.{Rediscretized}
-
--- ---- zero
-
--- zero in every place of a list of three
-pub record ThreeZeroed (ss cs : List ℕ) (xs : List Float) (ss' cs' : List ℕ) (xs' : List Float) : Type 0 where
-  pub starts_are : ss' ≡ replicate (length ss) 0
-  pub columns_are : cs' ≡ replicate (length cs) 0
-  pub values_are : xs' ≡ replicate (length xs) zero_f
 
 -- ---- parts
 

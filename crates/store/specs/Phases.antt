@@ -1,7 +1,7 @@
 -- The phases of a setup: each lays its parts of all levels into the lists it is lent, and answers the first coarse level that has a number that is not
 -- finite. All transfers first, then all operators, then the scaling.
 -- Assumes nothing.
-use Rattle.std.specs.Prelude.{ℕ, zero, suc, ◌+◌, ◌*◌, ◌<◌, ◌≤◌, ◌≡◌, List, [], Bool, ◌&&◌, cond, eqb, ltb, length, get_or, Float}
+use Rattle.std.specs.Prelude.{ℕ, zero, suc, ◌+◌, ◌*◌, ◌<◌, ◌≤◌, ◌≡◌, List, [], Bool, ◌&&◌, cond, eqb, ltb, length, get_or, Float, Option, None, Some}
 use Rattle.numbers.specs.declared.C64.{C64}
 use Rattle.numbers.specs.declared.terms.Part.{Part}
 use Rattle.numbers.specs.Lists.{tabulate, rows, laid, laid_numbers, all_finite, read_from}
@@ -43,6 +43,11 @@ abbrev pub operator_part : FullLattice → Choice → ℕ → ℕ → Part
 operator_part l ch m L = record { s = stored_starts l m L; k = operator_off l ch m L }
 
 -- ---- levels that are not finite: the first coarse level, 0 where there is none
+
+-- 1 + a level, 0 where there is none: of the level before the first coarse level that is not finite, that coarse level
+abbrev pub level_code : Option ℕ → ℕ
+level_code None = 0
+level_code (Some L) = suc L
 
 abbrev pub noted : ℕ → ℕ → Bool → ℕ
 noted bad level ok = cond (eqb bad 0) (cond ok 0 (suc level)) bad

@@ -18,7 +18,7 @@ use Rattle.store.specs.Phases.{forward_part, turned_part, operator_part}
 use Rattle.store.specs.Work.{RowsAt}
 use Rattle.store.specs.Rows.{Row, operator_rule}
 use Rattle.store.specs.Parts.{part_off, flag_at, flagged_part}
-use Rattle.store.specs.Flagged.{RowTaken}
+use Rattle.store.specs.Flagged.{RowRenewed, RowTaken}
 use Rattle.store.specs.Renewed.{Fixed, fixed, five, Renewed}
 use Rattle.store.specs.declared.Choice.{Choice}
 use Rattle.store.specs.declared.Choice.TheVariants.{Galerkin, Rediscretized}
@@ -50,9 +50,9 @@ pub record OperatorStarts (l : FullLattice) (ch : Choice) (m L : ℕ) (o : Part)
   pub starts_room : o.s + edges_on l L < length os
   pub starts_are : (r : ℕ) → r ≤ edges_on l L → get_or os (o.s + r) 0 ≡ start_of (operator_cols l ch L) r
 
--- row r of an operator if flag q is set, and the rows rs of it, worked out from the permittivities, whatever the other lists are
-pub record EntryTaken (l : FullLattice) (ch : Choice) (m : ℕ) (flags : List ℕ) (q : ℕ) (r : Row) (eps ov : List Float) (b : Bool) (ov' : List Float) : Type 0 where
-  pub each : (x : Fixed) (f t c : List Float) → RowTaken l ch m x flags q r (five eps f t ov c) b (five eps f t ov' c)
+-- row r of an operator, and the rows rs of it, worked out from the permittivities, whatever the other lists are
+pub record EntryMade (l : FullLattice) (ch : Choice) (m : ℕ) (r : Row) (eps ov : List Float) (b : Bool) (ov' : List Float) : Type 0 where
+  pub each : (x : Fixed) (f t c : List Float) → RowRenewed l ch m x r (five eps f t ov c) b (five eps f t ov' c)
 
 pub record EntriesRenewed (l : FullLattice) (ch : Choice) (m : ℕ) (rs : List Row) (eps ov : List Float) (n : ℕ) (ov' : List Float) : Type 0 where
   pub each : (x : Fixed) (f t c : List Float) → Renewed l ch m x rs (five eps f t ov c) n (five eps f t ov' c)
@@ -73,9 +73,9 @@ pub record SharePlaces (l : FullLattice) (L : ℕ) (t : Part) (k n c : ℕ) : Ty
   pub fine_is : n ≡ edges_on l L
   pub coarse_is : c ≡ edges_on l (suc L)
 
--- an inverse share if flag q is set, and the rows rs, worked out from the turned rows and the volumes, whatever the other lists are
-pub record ShareTaken (l : FullLattice) (m : ℕ) (ts tc flags : List ℕ) (q : ℕ) (r : Row) (tv sc : List Float) (b : Bool) (sc' : List Float) : Type 0 where
-  pub each : (fs fc os oc : List ℕ) (e f o : List Float) → RowTaken l Rediscretized m (fixed fs fc ts tc os oc) flags q r (five e f tv o sc) b (five e f tv o sc')
+-- an inverse share, and the rows rs, worked out from the turned rows and the volumes, whatever the other lists are
+pub record ShareMade (l : FullLattice) (m : ℕ) (ts tc : List ℕ) (r : Row) (tv sc : List Float) (b : Bool) (sc' : List Float) : Type 0 where
+  pub each : (fs fc os oc : List ℕ) (e f o : List Float) → RowRenewed l Rediscretized m (fixed fs fc ts tc os oc) r (five e f tv o sc) b (five e f tv o sc')
 
 pub record SharesRenewed (l : FullLattice) (m : ℕ) (ts tc : List ℕ) (rs : List Row) (tv sc : List Float) (n : ℕ) (sc' : List Float) : Type 0 where
   pub each : (fs fc os oc : List ℕ) (e f o : List Float) → Renewed l Rediscretized m (fixed fs fc ts tc os oc) rs (five e f tv o sc) n (five e f tv o sc')

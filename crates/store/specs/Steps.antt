@@ -1,27 +1,26 @@
 -- The steps of a setup over the record of lists: the fill, and the setup behind the checks of its input.
 -- Assumes nothing.
-use Rattle.std.specs.Prelude.{ℕ, zero, suc, ◌-◌, ◌<◌, ◌≤◌, Bool, cond, ◌≡◌, List}
+use Rattle.std.specs.Prelude.{ℕ, zero, suc, ◌-◌, ◌<◌, ◌≤◌, Bool, cond, ◌≡◌, List, Option, Some, Ok, Err, Result as Answer}
 use Rattle.numbers.specs.declared.C64.{C64}
-use Rattle.lattice.specs.Check.{Verdict, accepted, refused, and_then, verdict_of}
+use Rattle.lattice.specs.Check.{Verdict, accepted, refused, and_then, refusal_of}
 use Rattle.lattice.specs.Lattice.{FullLattice}
 use Rattle.lattice.specs.Levels.{depth_of, count_of, levels_refused}
 use Rattle.store.specs.Store.{Store, Sizes, sizes, zeroed}
 use Rattle.store.specs.Setup.{Result, result_of, unless, filled, all_to, names_once, short_of, level_fine}
-use Rattle.lattice.specs.declared.levels.Depth.{Depth}
 use Rattle.lattice.specs.declared.line.Line.{Line}
 use Rattle.store.specs.Phases.{HasLines, lower_of}
 use Rattle.store.specs.declared.Choice.{Choice}
-use Rattle.store.specs.declared.setup.Answer.{Answer}
-use Rattle.store.specs.declared.setup.Answer.TheVariants.{Levels, Refused, TooMany, Twice, Short, NotFinite}
+use Rattle.store.specs.declared.setup.Refusal.{Refusal}
+use Rattle.store.specs.declared.setup.Refusal.TheVariants.{Input, TooMany, Twice, Short, NotFinite}
 
 -- what a setup's answers mean: the level count, or a refusal's number and place
-abbrev pub answer_of : Answer → Verdict
-answer_of (Levels n) = accepted n
-answer_of (Refused c) = verdict_of c
-answer_of TooMany = levels_refused
-answer_of (Twice level) = refused 8 level
-answer_of (Short list) = refused 6 list
-answer_of (NotFinite level) = refused 7 level
+abbrev pub answer_of : Answer ℕ Refusal → Verdict
+answer_of (Ok n) = accepted n
+answer_of (Err (Input c)) = refusal_of c
+answer_of (Err TooMany) = levels_refused
+answer_of (Err (Twice level)) = refused 8 level
+answer_of (Err (Short list)) = refused 6 list
+answer_of (Err (NotFinite level)) = refused 7 level
 
 -- ---- the fill: all lists, and 1 + the first level that has a number that is not finite, 0 where there is none
 
@@ -53,8 +52,8 @@ unfoldable pub fill_of : FullLattice → Choice → ℕ → (ℕ → C64) → St
 fill_of l ch m f b = filling (code_of (all_to 7 (level_fine l ch m f) (suc m))) (filled l ch m f b)
 
 -- the lines of as many levels as the level loop found
-pub record LinesFound (l : FullLattice) (depth : Depth) (lines : List Line) : Type 0 where
-  pub held : (n : ℕ) → depth ≡ Depth.Levels n → (0 < n) × (n ≤ 12) × HasLines l (n - 1) lines
+pub record LinesFound (l : FullLattice) (depth : Option ℕ) (lines : List Line) : Type 0 where
+  pub held : (n : ℕ) → depth ≡ Some n → (0 < n) × (n ≤ 12) × HasLines l (n - 1) lines
 
 -- ---- behind the checks: refusals 5, 8 and 6, by structure, then the fill with refusal 7
 

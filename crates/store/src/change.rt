@@ -1,16 +1,37 @@
 // What the code of a change (crate `changes`) answers and holds.
 
-use crate::setup::Answer;
+ghost use Rattle.std.specs.Prelude.{◌≡◌};
+ghost use Rattle.store.specs.declared.setup.Refusal.TheVariants.{Input};
+ghost use Rattle.store.specs.declared.change.Refusal.TheVariants.{Setup};
+
+use crate::setup;
+use lattice::check;
 use numbers::terms::Part;
 
-// What a change is answered with: as a setup, the level count or a refusal; or that there is no such edge (9), that the value is not finite or zero
-// (10), or the lowest level whose starts, columns or ends differ from the lattice's (11).
-#[derive(Clone, Copy)]
-pub enum Changed {
-    Answered(Answer),
+// What a change is refused with: what refuses a setup; that there is no such edge (9), that the value is not finite or zero (10), or the lowest level
+// whose starts, columns or ends differ from the lattice's (11).
+#[derive(Clone, Copy, PartialEq, Eq, Debug)]
+pub enum Refusal {
+    Setup(setup::Refusal),
     NoEdge(usize),
     BadValue(usize),
     Differs(usize),
+}
+
+impl From<setup::Refusal> for Refusal {
+    ghost from_gives = { λ r e. e ≡ Setup r };
+
+    fn from(r: setup::Refusal) -> Refusal {
+        Refusal::Setup(r)
+    }
+}
+
+impl From<check::Refusal> for Refusal {
+    ghost from_gives = { λ c e. e ≡ Setup (Input c) };
+
+    fn from(c: check::Refusal) -> Refusal {
+        Refusal::Setup(setup::Refusal::from(c))
+    }
 }
 
 // The most edges of a level.

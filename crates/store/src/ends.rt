@@ -14,8 +14,8 @@ fn lay_line(f: Line, ends: &mut [usize], k: usize) -> usize
 {
     let n = f.cells + 1;
     let mut next = k;
-    for m in 0..n {
-        next = lists::push(ends, next, f.ends[m]);
+    for end in &f.ends[..n] {
+        next = lists::push(ends, next, *end);
     }
     next
 }
@@ -28,7 +28,7 @@ pub fn lay_ends(lines: [Line; 36], m: usize, ends: &mut [usize])
 {
     let n = 3 * (m + 1);
     let mut next = 0;
-    for q in 0..n {
-        next = lay_line(lines[q], ends, next);
+    for f in &lines[..n] {
+        next = lay_line(*f, ends, next);
     }
 }

@@ -7,58 +7,39 @@ ghost use Rattle.lattice.specs.Lattice.{full_lattice};
 ghost use Rattle.operators.specs.LevelLists.{edges_on};
 ghost use Rattle.store.specs.Store.{lent, sizes};
 ghost use Rattle.store.specs.Layout.{Enough};
-ghost use Rattle.store.specs.Phases.{HasLines, lower_of};
+ghost use Rattle.store.specs.Phases.{HasLines, level_code, lower_of};
 ghost use Rattle.store.specs.FillSteps.{OperatorsReady};
 ghost use Rattle.store.specs.Ready.{ChosenRoom, ScalingAsked, ChosenDone, ScalingDone};
-ghost use Rattle.store.specs.Steps.{filling, fill_of, sole_code, fill_code};
+ghost use Rattle.store.specs.Steps.{filling, fill_of, fill_code};
 
-use crate::{Choice, ends, galerkin_levels, rediscretized_levels, scaling, sole, transfers};
+use crate::{Choice, ends, galerkin_levels, lines, rediscretized_levels, scaling, sole, transfers};
 use lattice::lattice::Lattice;
 use lattice::line::Line;
 
-// The lower of two levels, 0 being none.
-fn lower(a: usize, b: usize) -> usize
-    ensures { result ≡ lower_of a b }
+// The lower of two levels, where there are any.
+fn lower(a: Option<usize>, b: Option<usize>) -> Option<usize>
+    ensures { level_code result ≡ lower_of (level_code a) (level_code b) }
 {
-    if a == 0 {
-        return b;
+    match (a, b) {
+        (Some(x), Some(y)) => Some(x.min(y)),
+        _ => a.or(b),
     }
-    if b == 0 {
-        return a;
-    }
-    if a < b {
-        return a;
-    }
-    b
 }
 
-// 1 for a sole level that is not finite, else 0.
-fn sole_code(ok: bool) -> usize
-    ensures { result ≡ sole_code ok }
-{
-    if ok {
-        return 0;
-    }
-    1
-}
-
-// 1 + the first level that is not finite, 0 if there is none: from what the phases answer, of which the operators' tells of a sole level.
-fn fill_code(m: usize, a: usize, b: usize, c: usize) -> usize
-    requires { (a ≤ m) × (b ≤ suc m) × (c ≤ m) × (m ≤ 11) }
-    ensures { result ≡ fill_code m a b c }
+// The first level that is not finite, from what the phases answer: of a sole level what the operators do, else the level behind the lowest of theirs.
+fn first_bad(m: usize, a: Option<usize>, b: Option<usize>, c: Option<usize>) -> Option<usize>
+    requires { (level_code a ≤ m) × (level_code b ≤ suc m) × (level_code c ≤ m) × (m ≤ 11) }
+    ensures { level_code result ≡ fill_code m (level_code a) (level_code b) (level_code c) }
 {
     if m == 0 {
         return b;
     }
     let bad = lower(lower(a, b), c);
-    if bad == 0 {
-        return 0;
-    }
-    bad + 1
+    bad.map(|level| level + 1)
 }
 
-// The operators of m transfers, of either choice, and the averaged permittivities of the rediscretized ones. The first coarse level that has a number that
-// is not finite, 0 if there is none; of a sole level 1 if it has one.
+// The operators of m transfers, of either choice, and the averaged permittivities of the rediscretized ones. The first transfer whose coarse level has a
+// number that is not finite; of a sole level 0 if it has one.
 fn operators(
     choice: Choice,
     l: Lattice,
@@ -75,7 +56,7 @@ fn operators(
     ostarts: &mut [usize],
     ocolumns: &mut [usize],
     ovalues: &mut [f64],
-) -> usize
+) -> Option<usize>
     requires limits { Limits l.grid }
     requires m_bound { m ≤ 11 }
     requires has_lines { HasLines (full_lattice l st.now) m lines }
@@ -83,10 +64,10 @@ fn operators(
     requires chosen_room { ChosenRoom (full_lattice l st.now) choice m eps.old ostarts.old ocolumns.old ovalues.old }
     ensures { ChosenDone (full_lattice l st.now) choice m eps.old starts.now columns.now values.now
         tstarts.now tcolumns.now tvalues.now ostarts.old ocolumns.old ovalues.old
-        eps.new ostarts.new ocolumns.new ovalues.new result }
+        eps.new ostarts.new ocolumns.new ovalues.new (level_code result) }
 {
     if m == 0 {
-        return sole_code(sole::sole(l, st, eps, ostarts, ocolumns, ovalues));
+        return lines::noted(None, 0, sole::sole(l, st, eps, ostarts, ocolumns, ovalues));
     }
     match choice {
         Choice::Galerkin => galerkin_levels::operators(
@@ -99,7 +80,7 @@ fn operators(
     }
 }
 
-// The volumes and inverse shares of m transfers, if rediscretized. The first coarse level that has one that is not finite, 0 if there is none.
+// The volumes and inverse shares of m transfers, if rediscretized. The first transfer that has one that is not finite.
 fn scalings(
     choice: Choice,
     l: Lattice,
@@ -110,23 +91,23 @@ fn scalings(
     tcolumns: &[usize],
     tvalues: &[f64],
     scaling: &mut [f64],
-) -> usize
+) -> Option<usize>
     requires limits { Limits l.grid }
     requires m_bound { m ≤ 11 }
     requires has_lines { HasLines (full_lattice l st.now) m lines }
     requires scaling_asked { ScalingAsked (full_lattice l st.now) choice m tstarts.now tcolumns.now tvalues.now scaling.old }
     ensures { ScalingDone (full_lattice l st.now) choice m tstarts.now tcolumns.now tvalues.now
-        scaling.old scaling.new result }
+        scaling.old scaling.new (level_code result) }
 {
     match choice {
-        Choice::Galerkin => 0,
+        Choice::Galerkin => None,
         Choice::Rediscretized => scaling::scaling(
             l, st, lines, m, tstarts, tcolumns, tvalues, scaling,
         ),
     }
 }
 
-// All of a setup's lists, for m transfers. 1 + the first level that has a number that is not finite, 0 if there is none.
+// All of a setup's lists, for m transfers. The first level that has a number that is not finite.
 pub fn fill(
     choice: Choice,
     l: Lattice,
@@ -146,14 +127,14 @@ pub fn fill(
     ocolumns: &mut [usize],
     ovalues: &mut [f64],
     scaling: &mut [f64],
-) -> usize
+) -> Option<usize>
     requires limits { Limits l.grid }
     requires m_bound { m ≤ 11 }
     requires has_lines { HasLines (full_lattice l st.now) m lines }
     requires st_in_bounds { 2 * edges_on (full_lattice l st.now) 0 ≤ length given.now }
     requires enough { Enough (full_lattice l st.now) choice m (sizes (lent ends.old eps.old starts.old columns.old values.old
         tstarts.old tcolumns.old tvalues.old ostarts.old ocolumns.old ovalues.old scaling.old)) }
-    ensures { filling result (lent ends.new eps.new starts.new columns.new values.new
+    ensures { filling (level_code result) (lent ends.new eps.new starts.new columns.new values.new
         tstarts.new tcolumns.new tvalues.new ostarts.new ocolumns.new ovalues.new scaling.new)
         ≡ fill_of (full_lattice l st.now) choice m (number_at given.now) (lent ends.old eps.old starts.old
         columns.old values.old tstarts.old tcolumns.old tvalues.old ostarts.old
@@ -168,5 +149,5 @@ pub fn fill(
         ocolumns, ovalues,
     );
     let c = scalings(choice, l, st, lines, m, tstarts, tcolumns, tvalues, scaling);
-    fill_code(m, a, b, c)
+    first_bad(m, a, b, c)
 }

@@ -6,7 +6,7 @@ ghost use Rattle.lattice.specs.Lattice.{full_lattice};
 ghost use Rattle.operators.specs.LevelLists.{edges_on, LevelReady, LevelLeft};
 ghost use Rattle.operators.specs.Levels.{grid_at};
 ghost use Rattle.store.specs.Layout.{operator_count};
-ghost use Rattle.store.specs.Phases.{HasLines, forward_part, turned_part, operator_part, OperatorRoom};
+ghost use Rattle.store.specs.Phases.{HasLines, forward_part, turned_part, operator_part, OperatorRoom, level_code};
 ghost use Rattle.store.specs.FillSteps.{offsets_at, OperatorsReady, OperatorsDone};
 ghost use Rattle.store.specs.declared.Choice.TheVariants.{Galerkin};
 
@@ -15,7 +15,7 @@ use crate::{lines, relations, transfers};
 use lattice::lattice::Lattice;
 use lattice::line::Line;
 use numbers::terms::Part;
-use operators::galerkin::FineRows;
+use operators::galerkin::{FineRows, Rows};
 use operators::levels;
 use weights::tables;
 
@@ -54,11 +54,20 @@ fn level_operator(
         q ostarts.old ocolumns.old ovalues.old ostarts.new ocolumns.new ovalues.new result }
 {
     let g = tables::grid_of(l.grid, lines::three(lines, level + 1));
-    let p = Part { s: o.s, k: o.k };
-    let t = Part { s: o.ts, k: o.tk };
+    let forward = Rows {
+        part: Part { s: o.s, k: o.k },
+        starts,
+        columns,
+        values,
+    };
+    let turned = Rows {
+        part: Part { s: o.ts, k: o.tk },
+        starts: tstarts,
+        columns: tcolumns,
+        values: tvalues,
+    };
     levels::galerkin_level(
-        fine, l, st, eps, g, u, p, starts, columns, values, t, tstarts, tcolumns, tvalues, q,
-        ostarts, ocolumns, ovalues,
+        fine, l, st, eps, g, u, &forward, &turned, q, ostarts, ocolumns, ovalues,
     )
 }
 
@@ -89,7 +98,7 @@ fn next_part(
     }
 }
 
-// The operators of levels 1 to m, over the transfers that stand in the lists. The first level that has a number that is not finite; 0 if there is none.
+// The operators of levels 1 to m, over the transfers that stand in the lists. The level before the first of them that has a number that is not finite.
 // `requires`: more than one level and their lines, the given permittivities at the front of eps, the transfers that come from them, and room.
 pub fn operators(
     l: Lattice,
@@ -106,7 +115,7 @@ pub fn operators(
     ostarts: &mut [usize],
     ocolumns: &mut [usize],
     ovalues: &mut [f64],
-) -> usize
+) -> Option<usize>
     requires limits { Limits l.grid }
     requires m_nonzero { (0 < m) × (m ≤ 11) }
     requires has_lines { HasLines (full_lattice l st.now) m lines }
@@ -114,13 +123,13 @@ pub fn operators(
     requires operator_room { OperatorRoom (full_lattice l st.now) Galerkin m ostarts.old ocolumns.old ovalues.old }
     ensures { OperatorsDone (full_lattice l st.now) m eps.now starts.now columns.now values.now
         tstarts.now tcolumns.now tvalues.now ostarts.old ocolumns.old ovalues.old
-        ostarts.new ocolumns.new ovalues.new result }
+        ostarts.new ocolumns.new ovalues.new (level_code result) }
 {
     let mut u = relations::first_relations(l, st);
     let mut o = transfers::first_offsets(l, st, lines, m);
     let mut fine = FineRows::Computed;
     let mut q = Part { s: 0, k: 0 };
-    let mut bad = 0;
+    let mut bad = None;
     for level in 0..m {
         u = relations::next_relations(l, st, lines, m, level, &u);
         let ok = level_operator(

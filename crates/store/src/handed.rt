@@ -12,13 +12,6 @@ pub struct Cells {
     pub cells: [usize; 36],
 }
 
-// The terms of a row, from one place up to another; or that there is no such row.
-#[derive(Clone, Copy)]
-pub enum Span {
-    At(usize, usize),
-    Nowhere,
-}
-
 // The cells of an axis on a level.
 fn cells_along(c: Cells, level: usize, axis: usize) -> usize
     requires { (level < 12) × (axis < 3) }
@@ -35,22 +28,15 @@ fn some_cells(n: usize) -> bool
 }
 
 // Whether a level exists.
+#[tactic(auto, unfolding(crate::specs::Handed::level_there))]
 fn level_there(c: Cells, level: usize) -> bool
     ensures { result ≡ level_there c level }
 {
-    if 12 <= level {
-        return false;
-    }
-    if c.levels <= level {
-        return false;
-    }
-    if !some_cells(cells_along(c, level, 0)) {
-        return false;
-    }
-    if !some_cells(cells_along(c, level, 1)) {
-        return false;
-    }
-    some_cells(cells_along(c, level, 2))
+    level < 12
+        && level < c.levels
+        && some_cells(cells_along(c, level, 0))
+        && some_cells(cells_along(c, level, 1))
+        && some_cells(cells_along(c, level, 2))
 }
 
 // The edges of a level, none where it does not exist.
@@ -70,65 +56,72 @@ fn edges(c: Cells, level: usize) -> usize
 fn levels_there(c: Cells, n: usize) -> bool
     ensures { result ≡ levels_there c n }
 {
-    let mut q = 0;
-    while q < n {
+    for q in 0..n {
         if !level_there(c, q) {
             return false;
         }
-        q += 1;
     }
     true
 }
 
 // Where the starts of a part begin, and its terms: behind those of the parts before it, each of which has as many terms as its last start says. Part q
 // has the rows of level q + first. `room`: how many terms the list has place for.
-fn part_at(c: Cells, first: usize, starts: &[usize], room: usize, part: usize) -> Span
+fn part_at(
+    c: Cells,
+    first: usize,
+    starts: &[usize],
+    room: usize,
+    part: usize,
+) -> Option<(usize, usize)>
     requires { part + first < 12 }
     ensures { result ≡ part_at (rows_from c first) starts.now room part }
 {
     let mut at = 0;
     let mut terms = 0;
-    let mut q = 0;
-    while q < part {
+    for q in 0..part {
         let n = edges(c, q + first);
         if starts.len() - at <= n {
-            return Span::Nowhere;
+            return None;
         }
         let last = starts[at + n];
         if room - terms < last {
-            return Span::Nowhere;
+            return None;
         }
         at += n + 1;
         terms += last;
-        q += 1;
     }
-    Span::At(at, terms)
+    Some((at, terms))
 }
 
-// The terms of a row of a part.
-fn row_at(c: Cells, first: usize, starts: &[usize], room: usize, part: usize, row: usize) -> Span
+// The terms of a row of a part, from one place up to another.
+fn row_at(
+    c: Cells,
+    first: usize,
+    starts: &[usize],
+    room: usize,
+    part: usize,
+    row: usize,
+) -> Option<(usize, usize)>
     requires { part + first < 12 }
     ensures { result ≡ row_at (rows_from c first) starts.now room part row }
 {
     let n = edges(c, part + first);
     if n <= row {
-        return Span::Nowhere;
+        return None;
     }
-    let Span::At(at, terms) = part_at(c, first, starts, room, part) else {
-        return Span::Nowhere;
-    };
+    let (at, terms) = part_at(c, first, starts, room, part)?;
     if starts.len() - at <= row + 1 {
-        return Span::Nowhere;
+        return None;
     }
     let a = starts[at + row];
     let b = starts[at + (row + 1)];
     if b < a {
-        return Span::Nowhere;
+        return None;
     }
     if room - terms < b {
-        return Span::Nowhere;
+        return None;
     }
-    Span::At(terms + a, terms + b)
+    Some((terms + a, terms + b))
 }
 
 // A row of a transfer's part: of the forward list with first = 0, of the turned list with first = 1.
@@ -139,15 +132,15 @@ fn transfer_row(
     room: usize,
     level: usize,
     row: usize,
-) -> Span
+) -> Option<(usize, usize)>
     requires { first < 2 }
     ensures { result ≡ transfer_row c first starts.now room level row }
 {
     if 11 <= level {
-        return Span::Nowhere;
+        return None;
     }
     if !levels_there(c, level + 2) {
-        return Span::Nowhere;
+        return None;
     }
     row_at(c, first, starts, room, level, row)
 }
@@ -163,20 +156,24 @@ fn first_stored(c: Cells) -> usize
 }
 
 // The terms of row `row` of the operator of a level. `room`: how many terms the list has place for.
-pub fn operator_terms(c: Cells, starts: &[usize], room: usize, level: usize, row: usize) -> Span
+pub fn operator_terms(
+    c: Cells,
+    starts: &[usize],
+    room: usize,
+    level: usize,
+    row: usize,
+) -> Option<(usize, usize)>
     ensures { result ≡ operator_row c starts.now room level row }
 {
     let first = first_stored(c);
-    if level < first {
-        return Span::Nowhere;
-    }
+    let part = level.checked_sub(first)?;
     if 12 <= level {
-        return Span::Nowhere;
+        return None;
     }
     if !levels_there(c, level + 1) {
-        return Span::Nowhere;
+        return None;
     }
-    row_at(c, first, starts, room, level - first, row)
+    row_at(c, first, starts, room, part, row)
 }
 
 // The terms of row `row` of the transfer from level `level` + 1 to `level`: in the forward list or, if `turned`, in the turned one. `room`, `troom`: how
@@ -190,7 +187,7 @@ pub fn weight_terms(
     troom: usize,
     level: usize,
     row: usize,
-) -> Span
+) -> Option<(usize, usize)>
     ensures { result ≡ weight_terms c turned starts.now room tstarts.now troom level row }
 {
     if turned {
@@ -215,7 +212,7 @@ pub fn weight_row<'a>(
 {
     let room = values.len() / 2;
     let troom = tvalues.len() / 2;
-    let Span::At(i, j) = weight_terms(c, turned, starts, room, tstarts, troom, level, row) else {
+    let Some((i, j)) = weight_terms(c, turned, starts, room, tstarts, troom, level, row) else {
         return &values[0..0];
     };
     if turned {
@@ -235,7 +232,7 @@ pub fn operator_row<'a>(
 ) -> &'a [usize]
     ensures { result.now ≡ operator_row_of c starts.now columns.now level row }
 {
-    let Span::At(i, j) = operator_terms(c, starts, columns.len(), level, row) else {
+    let Some((i, j)) = operator_terms(c, starts, columns.len(), level, row) else {
         return &columns[0..0];
     };
     &columns[i..j]

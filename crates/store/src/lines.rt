@@ -5,7 +5,7 @@ ghost use Rattle.lattice.specs.Grid.{Limits, unknowns_of};
 ghost use Rattle.lattice.specs.Lattice.{full_lattice};
 ghost use Rattle.weights.specs.TwoLevels.{grid_with};
 ghost use Rattle.operators.specs.LevelLists.{edges_on};
-ghost use Rattle.store.specs.Phases.{HasLines, three_in, noted as noted_of};
+ghost use Rattle.store.specs.Phases.{HasLines, three_in, level_code, noted as noted_of};
 ghost use Rattle.store.specs.PhaseSteps.{behind_of};
 
 use lattice::grid;
@@ -57,15 +57,8 @@ pub fn behind(o: Part, n: usize, starts: &[usize]) -> Part
 }
 
 // The first level that is not fine: a level is noted only where none is so far.
-pub fn noted(bad: usize, level: usize, ok: bool) -> usize
-    requires { level < 12 }
-    ensures { result ≡ noted_of bad level ok }
+pub fn noted(bad: Option<usize>, level: usize, ok: bool) -> Option<usize>
+    ensures { level_code result ≡ noted_of (level_code bad) level ok }
 {
-    if bad == 0 {
-        if ok {
-            return 0;
-        }
-        return level + 1;
-    }
-    bad
+    bad.or((!ok).then_some(level))
 }

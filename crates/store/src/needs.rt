@@ -1,6 +1,7 @@
 // How many places the lists need, from structure alone, and the list that is short.
 
-ghost use Rattle.std.specs.Prelude.{◌≡◌, suc, ◌+◌, ◌*◌, ◌<◌, ◌≤◌, ◌^◌, cond, eqb};
+ghost use Rattle.std.specs.Prelude.{◌≡◌, suc, ◌+◌, ◌*◌, ◌<◌, ◌≤◌, ◌^◌, cond, eqb, not, unwrap_or, IfSome};
+ghost use Rattle.std.specs.List.{position};
 ghost use Rattle.numbers.specs.Lists.{sum_to};
 ghost use Rattle.lattice.specs.Grid.{Limits};
 ghost use Rattle.lattice.specs.Lattice.{full_lattice};
@@ -8,7 +9,7 @@ ghost use Rattle.operators.specs.LevelLists.{edges_on};
 ghost use Rattle.store.specs.Layout.{forward_off, operator_count, operator_off, ends_off};
 ghost use Rattle.store.specs.Setup.{room_of};
 ghost use Rattle.store.specs.Phases.{HasLines};
-ghost use Rattle.store.specs.FillSteps.{coarse_terms, only_count, needs_of, first_short, short_in};
+ghost use Rattle.store.specs.FillSteps.{coarse_terms, only_count, needs_of, short_in};
 ghost use Rattle.store.specs.declared.Choice.TheVariants.{Galerkin, Rediscretized};
 
 use crate::{Choice, lines, relations};
@@ -59,15 +60,21 @@ fn line_ends(l: Lattice, st: &[f64], lines: [Line; 36], m: usize) -> usize
 {
     let n = 3 * (m + 1);
     let mut total = 0;
-    for q in 0..n {
-        let s = lines[q];
-        total += s.cells + 1;
+    for f in &lines[..n] {
+        total += f.cells + 1;
     }
     total
 }
 
 // The edges of n levels from level `from` on.
-fn edges_from(l: Lattice, st: &[f64], lines: [Line; 36], m: usize, from: usize, n: usize) -> usize
+pub fn edges_from(
+    l: Lattice,
+    st: &[f64],
+    lines: [Line; 36],
+    m: usize,
+    from: usize,
+    n: usize,
+) -> usize
     requires limits { Limits l.grid }
     requires n_bound { (from + n ≤ m + 1) × (m ≤ 11) }
     requires has_lines { HasLines (full_lattice l st.now) m lines }
@@ -217,34 +224,18 @@ fn has_room(starts: usize, terms: usize, hs: usize, hc: usize, hv: usize) -> boo
     starts <= hs && (terms <= hc && terms <= hv / 2)
 }
 
-// The first of six lists that has no room; 6 if all have.
-fn first_short(a: bool, b: bool, c: bool, d: bool, e: bool, f: bool) -> usize
-    ensures { result ≡ first_short a b c d e f }
+// The first of six lists that does not fit.
+fn first_short(fits: [bool; 6]) -> Option<usize>
+    ensures value { result ≡ position not fits }
+    ensures within { IfSome result (λ list. list < 6) }
 {
-    if a {
-        if b {
-            if c {
-                if d {
-                    if e {
-                        if f {
-                            return 6;
-                        }
-                        return 5;
-                    }
-                    return 4;
-                }
-                return 3;
-            }
-            return 2;
-        }
-        return 1;
-    }
-    0
+    fits.iter().position(|fits| !*fits)
 }
 
-// The first list that is short; 6 if none is.
-pub fn short(n: Needs, h: Lengths) -> usize
-    ensures { result ≡ short_in n h }
+// The first list that is short.
+pub fn short(n: Needs, h: Lengths) -> Option<usize>
+    ensures value { unwrap_or result 6 ≡ short_in n h }
+    ensures within { IfSome result (λ list. list < 6) }
 {
     let a = n.ends <= h.ends;
     let b = n.eps <= h.eps / 2;
@@ -252,5 +243,5 @@ pub fn short(n: Needs, h: Lengths) -> usize
     let d = has_room(n.tstarts, n.terms, h.tstarts, h.tcolumns, h.tvalues);
     let e = has_room(n.ostarts, n.oterms, h.ostarts, h.ocolumns, h.ovalues);
     let f = n.scaling <= h.scaling / 2;
-    first_short(a, b, c, d, e, f)
+    first_short([a, b, c, d, e, f])
 }

@@ -5,13 +5,14 @@ ghost use Rattle.lattice.specs.Grid.{Limits};
 ghost use Rattle.lattice.specs.Lattice.{full_lattice};
 ghost use Rattle.operators.specs.LevelLists.{edges_on};
 ghost use Rattle.store.specs.Layout.{scale_off};
-ghost use Rattle.store.specs.Phases.{HasLines, turned_part, ScalingRoom};
+ghost use Rattle.store.specs.Phases.{HasLines, turned_part, ScalingRoom, level_code};
 ghost use Rattle.store.specs.PhaseSteps.{TurnedStored, VolumesLeft, ScaleLevel, ScalingLeft};
 
 use crate::lines;
 use lattice::lattice::Lattice;
 use lattice::line::Line;
 use numbers::terms::Part;
+use operators::galerkin::Rows;
 use operators::{rediscretized, volumes};
 
 // The volumes of level `level`, on the lattice of its own lines, laid from place k on; whether all are finite.
@@ -65,11 +66,17 @@ fn level_scaling(
     let n = lines::level_edges(l, st, lines, m, level);
     let c = lines::level_edges(l, st, lines, m, level + 1);
     let known = level_volumes(l, st, lines, m, level, scaling, k);
-    let shared = volumes::inverse_shares(t, tstarts, tcolumns, tvalues, c, n, scaling, k, k + n);
+    let turned = Rows {
+        part: t,
+        starts: tstarts,
+        columns: tcolumns,
+        values: tvalues,
+    };
+    let shared = volumes::inverse_shares(&turned, c, n, scaling, k, k + n);
     known && shared
 }
 
-// Those of all m transfers, whose turned rows stand in the lists. The first coarse level that has a number that is not finite; 0 if there is none.
+// Those of all m transfers, whose turned rows stand in the lists. The first transfer that has a number that is not finite.
 pub fn scaling(
     l: Lattice,
     st: &[f64],
@@ -79,18 +86,18 @@ pub fn scaling(
     tcolumns: &[usize],
     tvalues: &[f64],
     scaling: &mut [f64],
-) -> usize
+) -> Option<usize>
     requires limits { Limits l.grid }
     requires m_bound { m ≤ 11 }
     requires has_lines { HasLines (full_lattice l st.now) m lines }
     requires turned_stored { TurnedStored (full_lattice l st.now) m tstarts.now tcolumns.now tvalues.now }
     requires scaling_room { ScalingRoom (full_lattice l st.now) m scaling.old }
     ensures { ScalingLeft (full_lattice l st.now) m m tstarts.now tcolumns.now tvalues.now
-        scaling.old scaling.new result }
+        scaling.old scaling.new (level_code result) }
 {
     let mut t = Part { s: 0, k: 0 };
     let mut k = 0;
-    let mut bad = 0;
+    let mut bad = None;
     for level in 0..m {
         let ok = level_scaling(
             l, st, lines, m, level, t, tstarts, tcolumns, tvalues, scaling, k,

@@ -7,7 +7,7 @@ ghost use Rattle.lattice.specs.Grid.{Limits};
 ghost use Rattle.lattice.specs.Lattice.{full_lattice};
 ghost use Rattle.operators.specs.LevelLists.{edges_on};
 ghost use Rattle.store.specs.Layout.{forward_count};
-ghost use Rattle.store.specs.Phases.{HasLines, TransferRoom, TransfersLeft, first_of, weights_fine};
+ghost use Rattle.store.specs.Phases.{HasLines, TransferRoom, TransfersLeft, first_of, weights_fine, level_code};
 ghost use Rattle.store.specs.FillSteps.{offsets_at, behind_of, TransferDone};
 
 use crate::lines;
@@ -88,9 +88,7 @@ fn lay_given(given: &[f64], n: usize, eps: &mut [f64])
     requires { (n ≤ 12288) × (2 * n ≤ length given.now) × (2 * n ≤ length eps.old) }
     ensures { eps.new ≡ laid_numbers eps.old 0 (tabulate (number_at given.now) n 0) }
 {
-    for k in 0..n {
-        numbers::put(eps, k, numbers::get(given, k));
-    }
+    eps[..2 * n].copy_from_slice(&given[..2 * n]);
 }
 
 // The transfer from level `level` + 1 to `level`: the permittivities of the coarse level, the forward rows and the turned rows. Whether all is finite.
@@ -128,7 +126,7 @@ fn level_transfer(
     )
 }
 
-// The given permittivities and m transfers. The first coarse level that has a number that is not finite; 0 if there is none.
+// The given permittivities and m transfers. The first transfer that has a number that is not finite.
 // `requires`: the lines of m + 1 levels, as many given permittivities as the lattice has edges, and room.
 pub fn transfers(
     l: Lattice,
@@ -143,7 +141,7 @@ pub fn transfers(
     tstarts: &mut [usize],
     tcolumns: &mut [usize],
     tvalues: &mut [f64],
-) -> usize
+) -> Option<usize>
     requires limits { Limits l.grid }
     requires m_bound { m ≤ 11 }
     requires has_lines { HasLines (full_lattice l st.now) m lines }
@@ -152,12 +150,12 @@ pub fn transfers(
     ensures transfers_left { TransfersLeft (full_lattice l st.now) (number_at given.now) m eps.old starts.old columns.old
         values.old tstarts.old tcolumns.old tvalues.old eps.new starts.new columns.new
         values.new tstarts.new tcolumns.new tvalues.new }
-    ensures value { result ≡ first_of (weights_fine (full_lattice l st.now) (number_at given.now)) m }
+    ensures value { level_code result ≡ first_of (weights_fine (full_lattice l st.now) (number_at given.now)) m }
 {
     let n = lines::edges(l, lines::three(lines, 0));
     lay_given(given, n, eps);
     let mut o = first_offsets(l, st, lines, m);
-    let mut bad = 0;
+    let mut bad = None;
     for level in 0..m {
         let ok = level_transfer(
             l, st, lines, m, level, o, eps, starts, columns, values, tstarts, tcolumns, tvalues,

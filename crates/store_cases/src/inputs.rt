@@ -1,54 +1,39 @@
 // What the lines have set, as a call is handed it.
+use crate::steps::Step;
+use case_lines::lists;
+use case_lines::words::Numbers;
 use lattice::grid::Grid3d;
 use lattice::lattice::{Edges, Lattice};
 use numbers::C64;
+use programs::bytes;
 use store::Choice;
+use store::handed::Cells;
 
-// Where in the words those of each line stand.
-pub const GRID: usize = 0;
+// Where in the doubles the lists begin, behind those of the line `numbers`.
+const LISTS: usize = 16;
 
-pub const CHOICE: usize = 3;
+// How many doubles each list has room for; the last takes what is left.
+const ROOM: usize = 144;
 
-pub const COUNTS: usize = 8;
-
-pub const ROOM: usize = 16;
-
-pub const BUILT: usize = 32;
-
-pub const HANDED: usize = 72;
-// their count, and behind it the starts
-pub const PLACES: usize = 128;
-// the lengths lent for a change
-pub const LENT: usize = 500;
-// the count of words, and behind it four for each step
-pub const STEPS: usize = 512;
-
-// Where in the doubles list k begins: behind 14 scalars, with 144 for each of the stretches.
-pub fn list_place(k: u64) -> usize {
-    match k {
-        0 => 16,
-        1 => 160,
-        2 => 304,
-        3 => 448,
-        4 => 592,
-        5 => 736,
-        _ => 880,
-    }
-}
-
-// 0 past a list's end.
-pub fn at(words: &[usize], k: usize) -> usize {
-    if k < words.len() {
-        return words[k];
-    }
-    0
-}
-
-fn double_at(doubles: &[f64], k: usize) -> f64 {
-    if k < doubles.len() {
-        return doubles[k];
-    }
-    0.0
+// An array has the words of the line of its name; a line of fewer words leaves those behind as they were.
+#[derive(Drop)]
+pub struct Settings {
+    pub grid: [usize; 3],
+    pub choice: [usize; 3],
+    pub counts: [usize; 7],
+    pub room: [usize; 12],
+    // The lengths that are lent for a change.
+    pub lent: [usize; 12],
+    // The levels and their cells.
+    pub built: Cells,
+    // Room for the starts, and how many there are: there is no allocation.
+    pub places: [usize; 371],
+    pub placed: usize,
+    pub handed: [usize; 4],
+    // None behind the last.
+    pub steps: [Option<Step>; 256],
+    // One array: a step names a double of the line `numbers` or of a list by its place in it.
+    pub doubles: [f64; 25600],
 }
 
 fn edges(kind: f64, re: f64, im: f64) -> Edges {
@@ -58,74 +43,97 @@ fn edges(kind: f64, re: f64, im: f64) -> Edges {
     Edges::Bloch(C64 { re, im })
 }
 
-fn axis(d: &[f64], k: usize) -> Edges {
-    edges(
-        double_at(d, k),
-        double_at(d, k.wrapping_add(1)),
-        double_at(d, k.wrapping_add(2)),
-    )
-}
-
-pub fn lattice(words: &[usize], d: &[f64]) -> Lattice {
-    Lattice {
-        grid: Grid3d {
-            nx: at(words, GRID),
-            ny: at(words, GRID + 1),
-            nz: at(words, GRID + 2),
-            dx: double_at(d, 0),
-            dy: double_at(d, 1),
-            dz: double_at(d, 2),
-        },
-        x: axis(d, 5),
-        y: axis(d, 8),
-        z: axis(d, 11),
-        k0: double_at(d, 3),
-        shift: double_at(d, 4),
+impl Settings {
+    pub fn new() -> Settings {
+        Settings {
+            grid: [0; 3],
+            choice: [0; 3],
+            counts: [0; 7],
+            room: [0; 12],
+            lent: [0; 12],
+            built: Cells {
+                levels: 0,
+                cells: [0; 36],
+            },
+            places: [0; 371],
+            placed: 0,
+            handed: [0; 4],
+            steps: [None; 256],
+            doubles: [0.0; 25600],
+        }
     }
-}
 
-pub fn choice(words: &[usize]) -> Choice {
-    if at(words, CHOICE) == 0 {
-        return Choice::Galerkin;
+    // The doubles of a line, from a place on.
+    pub fn set_doubles(&mut self, from: usize, numbers: Numbers<'_>) {
+        let room = self.doubles.iter_mut().skip(from);
+        for (place, bits) in room.zip(numbers) {
+            *place = bytes::double_of(bits);
+        }
     }
-    Choice::Rediscretized
-}
 
-pub fn coarsest(words: &[usize]) -> usize {
-    at(words, CHOICE + 1)
-}
-
-pub fn brief(words: &[usize]) -> bool {
-    at(words, CHOICE + 2) != 0
-}
-
-// The first n places of a list, or all of it.
-pub fn front(list: &[usize], n: usize) -> &[usize] {
-    if n <= list.len() {
-        return &list[0..n];
+    // The doubles of the line `list`, whose first word says which.
+    pub fn set_list(&mut self, mut numbers: Numbers<'_>) {
+        let k = numbers.next().unwrap_or(0).min(6) as usize;
+        self.set_doubles(LISTS + ROOM * k, numbers);
     }
-    list
-}
 
-pub fn doubles_front(list: &[f64], n: usize) -> &[f64] {
-    if n <= list.len() {
-        return &list[0..n];
+    pub fn set_steps(&mut self, mut numbers: Numbers<'_>) {
+        for place in self.steps.iter_mut() {
+            *place = Step::read(&mut numbers);
+        }
     }
-    list
-}
 
-// n doubles of a list from a place on, none where it has fewer.
-fn part(d: &[f64], from: usize, n: usize) -> &[f64] {
-    if d.len() < from {
-        return &d[0..0];
+    pub fn set_built(&mut self, mut numbers: Numbers<'_>) {
+        if let Some(levels) = numbers.next() {
+            self.built.levels = levels as usize;
+        }
+        numbers.lay(&mut self.built.cells);
     }
-    if d.len() - from < n {
-        return &d[0..0];
-    }
-    &d[from..from + n]
-}
 
-// List k.
-pub fn list<'a>(words: &[usize], d: &'a [f64], k: usize) -> &'a [f64] {
-    part(d, list_place(k as u64), at(words, COUNTS.wrapping_add(k)))
+    pub fn lattice(&self) -> Lattice {
+        let d = &self.doubles;
+        Lattice {
+            grid: Grid3d {
+                nx: self.grid[0],
+                ny: self.grid[1],
+                nz: self.grid[2],
+                dx: d[0],
+                dy: d[1],
+                dz: d[2],
+            },
+            x: edges(d[5], d[6], d[7]),
+            y: edges(d[8], d[9], d[10]),
+            z: edges(d[11], d[12], d[13]),
+            k0: d[3],
+            shift: d[4],
+        }
+    }
+
+    pub fn choice(&self) -> Choice {
+        match self.choice[0] {
+            0 => Choice::Galerkin,
+            _ => Choice::Rediscretized,
+        }
+    }
+
+    pub fn coarsest(&self) -> usize {
+        self.choice[1]
+    }
+
+    pub fn brief(&self) -> bool {
+        self.choice[2] != 0
+    }
+
+    // The first doubles of list k, as many as the line `doubles` says; none where there are fewer.
+    pub fn list(&self, k: usize) -> &[f64] {
+        let k = k.min(6);
+        let from = LISTS + ROOM * k;
+        let to = self.counts[k].saturating_add(from);
+        self.doubles.get(from..to).unwrap_or(&[])
+    }
+
+    // The starts of the line `places`.
+    pub fn starts(&self) -> &[usize] {
+        lists::front(&self.places, self.placed)
+    }
 }

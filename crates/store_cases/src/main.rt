@@ -24,150 +24,85 @@ mod inputs;
 mod setups;
 mod show;
 mod steps;
-mod text;
 
-use inputs::{BUILT, CHOICE, COUNTS, GRID, HANDED, PLACES, ROOM, STEPS};
+use case_lines::words::Numbers;
+use case_lines::{lines, words};
+use inputs::Settings;
 use numbers::lists;
-use show::print;
 use std::io;
 use std::io::Read;
 
 // Whether a row of columns names one twice: a line of one coarse cell on a Bloch axis would give `0 0`, and no lattice's levels have such a line.
-fn twice(rt: &impl Print, text: &str, columns: [usize; 3], n: usize) -> io::Result<()> {
-    print(rt, text)?;
-    if n <= 3 {
-        if lists::repeats(&columns, n) {
-            print(rt, " twice\n")?;
-        } else {
-            print(rt, " once\n")?;
-        }
-    }
-    Ok(())
+fn twice(rt: &impl Print, text: &str, columns: &[usize]) -> io::Result<()> {
+    let how = if lists::repeats(columns, columns.len()) {
+        "twice"
+    } else {
+        "once"
+    };
+    println!(rt; "{text} {how}")
 }
 
 fn repeated(rt: &impl Print) -> io::Result<()> {
-    twice(rt, "none", [0, 0, 0], 0)?;
-    twice(rt, "0", [0, 0, 0], 1)?;
-    twice(rt, "0 0", [0, 0, 1], 2)?;
-    twice(rt, "1 0", [1, 0, 0], 2)?;
-    twice(rt, "2 1 0", [2, 1, 0], 3)?;
-    twice(rt, "1 0 1", [1, 0, 1], 3)
+    twice(rt, "none", &[])?;
+    twice(rt, "0", &[0])?;
+    twice(rt, "0 0", &[0, 0])?;
+    twice(rt, "1 0", &[1, 0])?;
+    twice(rt, "2 1 0", &[2, 1, 0])?;
+    twice(rt, "1 0 1", &[1, 0, 1])
 }
 
-// Where the words of a line are laid.
-fn place(kind: u8) -> usize {
-    match kind {
-        b'g' => GRID,
-        b'c' => CHOICE,
-        b'd' => COUNTS,
-        b'r' => ROOM,
-        b'b' => BUILT,
-        b'h' => HANDED,
-        b'p' => PLACES + 1,
-        _ => STEPS + 1,
+fn run_line(rt: &impl Print, line: &[u8], s: &mut Settings) -> io::Result<()> {
+    let numbers = Numbers::new(line);
+    match words::first(line) {
+        b"#" => {
+            rt.write_all(line)?;
+            rt.print("\n")?;
+        }
+        b"grid" => {
+            numbers.lay(&mut s.grid);
+        }
+        b"numbers" => s.set_doubles(0, numbers),
+        b"list" => s.set_list(numbers),
+        b"doubles" => {
+            numbers.lay(&mut s.counts);
+        }
+        b"choice" => {
+            numbers.lay(&mut s.choice);
+        }
+        b"room" => {
+            numbers.lay(&mut s.room);
+        }
+        b"setup" => {
+            setups::run(rt, s)?;
+            s.steps = [None; 256];
+        }
+        b"steps" => s.set_steps(numbers),
+        b"built" => s.set_built(numbers),
+        b"places" => s.placed = numbers.lay(&mut s.places),
+        b"handed" => {
+            numbers.lay(&mut s.handed);
+            handed::run(rt, s)?;
+        }
+        _ => {}
     }
-}
-
-fn set_list(line: &[u8], doubles: &mut [f64]) {
-    let w = text::next(line, text::first(line));
-    text::take_doubles(line, w, inputs::list_place(w.value), doubles);
-}
-
-fn set_words(line: &[u8], kind: u8, words: &mut [usize]) {
-    let n = text::take(line, text::first(line), place(kind), words);
-    text::put_if(words, kind == b'p', PLACES, n);
-    text::put_if(words, kind == b't', STEPS, n);
-}
-
-fn title(rt: &impl Print, line: &[u8]) -> io::Result<()> {
-    rt.write_all(line)?;
-    print(rt, "\n")
-}
-
-fn hand_back(rt: &impl Print, line: &[u8], words: &mut [usize]) -> io::Result<()> {
-    set_words(line, b'h', words);
-    handed::run(rt, words)
-}
-
-// The line `setup`, or `steps`.
-fn set_up(
-    rt: &impl Print,
-    line: &[u8],
-    words: &mut [usize],
-    doubles: &mut [f64],
-) -> io::Result<()> {
-    if text::byte(line, 1) == b't' {
-        set_words(line, b't', words);
-        return Ok(());
-    }
-    setups::run(rt, words, doubles)?;
-    text::put(words, STEPS, 0);
     Ok(())
-}
-
-fn run_line(
-    rt: &impl Print,
-    line: &[u8],
-    words: &mut [usize],
-    doubles: &mut [f64],
-) -> io::Result<()> {
-    let kind = text::byte(line, 0);
-    if kind == b'#' {
-        return title(rt, line);
-    }
-    if kind == b'n' {
-        text::take_doubles(line, text::first(line), 0, doubles);
-        return Ok(());
-    }
-    if kind == b'l' {
-        set_list(line, doubles);
-        return Ok(());
-    }
-    if kind == b's' {
-        return set_up(rt, line, words, doubles);
-    }
-    if kind == b'h' {
-        return hand_back(rt, line, words);
-    }
-    set_words(line, kind, words);
-    Ok(())
-}
-
-// The next line; whether there was one.
-fn next_line(
-    rt: &impl Print,
-    input: &mut impl Read,
-    words: &mut [usize],
-    doubles: &mut [f64],
-) -> io::Result<bool> {
-    let mut text = [0u8; 16384];
-    let read = text::read_line(input, &mut text)?;
-    if read.ended {
-        return Ok(false);
-    }
-    run_line(rt, text::front(&text, read.bytes), words, doubles)?;
-    Ok(true)
 }
 
 // A line in each turn, to the end of the input.
-fn run(
-    rt: &impl Print,
-    input: &mut impl Read,
-    words: &mut [usize],
-    doubles: &mut [f64],
-) -> io::Result<()> {
+fn run(rt: &impl Print, input: &mut impl Read, s: &mut Settings) -> io::Result<()> {
+    let mut room = [0u8; 16384];
+    // A count: a loop that waits on input needs one.
     for _ in 0..1000000usize {
-        if !next_line(rt, input, words, doubles)? {
-            return Ok(());
-        }
+        let Some(line) = lines::read_line(input, &mut room)? else {
+            break;
+        };
+        run_line(rt, line, s)?;
     }
     Ok(())
 }
 
 fn main(rt: HostRuntime) -> io::Result<()> {
-    let mut words = [0usize; 1600];
-    let mut doubles = [0.0; 25600];
     let mut input = rt.stdin();
     repeated(&rt)?;
-    run(&rt, &mut input, &mut words, &mut doubles)
+    run(&rt, &mut input, &mut Settings::new())
 }

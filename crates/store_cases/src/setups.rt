@@ -1,195 +1,151 @@
 // A setup: what it needs, what it answers, what it leaves in the twelve lists, and its rows handed back; then the steps behind it.
-use crate::show::print;
-use crate::{inputs, show, steps};
+use crate::inputs::Settings;
+use crate::{show, steps};
+use case_lines::lists::Lists;
+use case_lines::shown::{Number, digest};
 use std::io;
 use store::handed::Cells;
 use store::needed::Needed;
-use store::setup::Answer;
+use store::setup::Refusal;
 use store::{handed, needed, setup};
 
 // The rows of a level handed back, and behind them rows that do not exist: a digest of each of the three kinds.
-fn level_rows<'a>(
-    rt: &impl Print,
-    c: Cells,
-    level: usize,
-    starts: &[usize],
-    values: &'a [f64],
-    tstarts: &[usize],
-    tvalues: &'a [f64],
-    ostarts: &[usize],
-    ocolumns: &[usize],
-) -> io::Result<()> {
+fn level_rows(rt: &impl Print, c: Cells, level: usize, l: &Lists<'_>) -> io::Result<()> {
     let mut forward = 0;
     let mut turned = 0;
     let mut operator = 0;
     for row in 0..200 {
-        forward = show::double_digest(
-            forward,
-            handed::weight_row(c, false, starts, values, tstarts, tvalues, level, row),
+        let there = handed::weight_row(
+            c, false, l.starts, l.values, l.tstarts, l.tvalues, level, row,
         );
-        turned = show::double_digest(
-            turned,
-            handed::weight_row(c, true, starts, values, tstarts, tvalues, level, row),
+        forward = digest(forward, there);
+        let back = handed::weight_row(
+            c, true, l.starts, l.values, l.tstarts, l.tvalues, level, row,
         );
-        operator = show::digest(
+        turned = digest(turned, back);
+        operator = digest(
             operator,
-            handed::operator_row(c, ostarts, ocolumns, level, row),
+            handed::operator_row(c, l.ostarts, l.ocolumns, level, row),
         );
     }
-    print(rt, "rows ")?;
-    show::decimal(rt, level)?;
-    show::hex(rt, forward)?;
-    show::hex(rt, turned)?;
-    show::hex(rt, operator)?;
-    print(rt, "\n")
+    println!(rt; "rows {level} {forward:x} {turned:x} {operator:x}")
 }
 
 // Those of every level, and of one that does not exist.
-fn rows<'a>(
-    rt: &impl Print,
-    c: Cells,
-    starts: &[usize],
-    values: &'a [f64],
-    tstarts: &[usize],
-    tvalues: &'a [f64],
-    ostarts: &[usize],
-    ocolumns: &[usize],
-) -> io::Result<()> {
-    for level in 0..13 {
-        if level <= c.levels {
-            level_rows(
-                rt, c, level, starts, values, tstarts, tvalues, ostarts, ocolumns,
-            )?;
-        }
+fn rows(rt: &impl Print, c: Cells, l: &Lists<'_>) -> io::Result<()> {
+    for level in 0..=c.levels.min(12) {
+        level_rows(rt, c, level, l)?;
     }
     Ok(())
 }
 
 // What the setup needs, printed.
-fn needs(rt: &impl Print, words: &[usize], d: &[f64]) -> io::Result<Needed> {
+fn needs(rt: &impl Print, s: &Settings) -> io::Result<Result<Needed, Refusal>> {
     let n = needed::setup_needs(
-        inputs::lattice(words, d),
-        inputs::list(words, d, 0),
-        inputs::list(words, d, 1),
-        inputs::list(words, d, 2),
-        inputs::list(words, d, 3),
-        inputs::list(words, d, 4),
-        inputs::list(words, d, 5),
-        inputs::choice(words),
-        inputs::coarsest(words),
+        s.lattice(),
+        s.list(0),
+        s.list(1),
+        s.list(2),
+        s.list(3),
+        s.list(4),
+        s.list(5),
+        s.choice(),
+        s.coarsest(),
     );
     show::needed(rt, n)?;
     Ok(n)
 }
 
-fn accepted(a: Answer) -> bool {
-    match a {
-        Answer::Levels(_) => true,
-        _ => false,
-    }
+fn set_up(s: &Settings, l: &mut Lists<'_>) -> Result<usize, Refusal> {
+    setup::setup(
+        s.lattice(),
+        s.list(0),
+        s.list(1),
+        s.list(2),
+        s.list(3),
+        s.list(4),
+        s.list(5),
+        s.list(6),
+        s.choice(),
+        s.coarsest(),
+        l.ends,
+        l.eps,
+        l.starts,
+        l.columns,
+        l.values,
+        l.tstarts,
+        l.tcolumns,
+        l.tvalues,
+        l.ostarts,
+        l.ocolumns,
+        l.ovalues,
+        l.scaling,
+    )
 }
 
-// The front of a list that is lent as list k; none of it where it is too short.
-fn words_lent<'a>(list: &'a mut [usize], words: &[usize], k: usize) -> &'a mut [usize] {
-    let n = inputs::at(words, inputs::ROOM.wrapping_add(k));
-    if n <= list.len() {
-        return &mut list[0..n];
-    }
-    &mut list[0..0]
+// What stands in the lists, printed.
+fn left(rt: &impl Print, l: &Lists<'_>, brief: bool) -> io::Result<()> {
+    show::list(rt, "ends", l.ends, false)?;
+    show::list(rt, "permittivities", l.eps, brief)?;
+    show::list(rt, "forward starts", l.starts, brief)?;
+    show::list(rt, "forward columns", l.columns, brief)?;
+    show::list(rt, "forward values", l.values, brief)?;
+    show::list(rt, "turned starts", l.tstarts, brief)?;
+    show::list(rt, "turned columns", l.tcolumns, brief)?;
+    show::list(rt, "turned values", l.tvalues, brief)?;
+    show::list(rt, "operator starts", l.ostarts, brief)?;
+    show::list(rt, "operator columns", l.ocolumns, brief)?;
+    show::list(rt, "operator values", l.ovalues, brief)?;
+    show::list(rt, "scaling", l.scaling, brief)
 }
 
-fn doubles_lent<'a>(list: &'a mut [f64], words: &[usize], k: usize) -> &'a mut [f64] {
-    let n = inputs::at(words, inputs::ROOM.wrapping_add(k));
-    if n <= list.len() {
-        return &mut list[0..n];
-    }
-    &mut list[0..0]
-}
-
-// The three lists of rows, printed.
-fn three(
-    rt: &impl Print,
-    name: &str,
-    starts: &[usize],
-    columns: &[usize],
-    values: &[f64],
-    brief: bool,
-) -> io::Result<()> {
-    print(rt, name)?;
-    show::words(rt, " starts", starts, brief)?;
-    print(rt, name)?;
-    show::words(rt, " columns", columns, brief)?;
-    print(rt, name)?;
-    show::doubles(rt, " values", values, brief)
-}
-
-pub fn run(rt: &impl Print, words: &mut [usize], d: &mut [f64]) -> io::Result<()> {
-    let w = show::MARK as usize;
-    let x = show::mark();
-    let mut ends_all = [w; 256];
-    let mut eps_all = [x; 2048];
-    let mut starts_all = [w; 512];
-    let mut columns_all = [w; 1024];
-    let mut values_all = [x; 2048];
-    let mut tstarts_all = [w; 512];
-    let mut tcolumns_all = [w; 1024];
-    let mut tvalues_all = [x; 2048];
-    let mut ostarts_all = [w; 512];
-    let mut ocolumns_all = [w; 4096];
-    let mut ovalues_all = [x; 8192];
-    let mut scaling_all = [x; 2048];
-    let ends = words_lent(&mut ends_all, words, 0);
-    let eps = doubles_lent(&mut eps_all, words, 1);
-    let starts = words_lent(&mut starts_all, words, 2);
-    let columns = words_lent(&mut columns_all, words, 3);
-    let values = doubles_lent(&mut values_all, words, 4);
-    let tstarts = words_lent(&mut tstarts_all, words, 5);
-    let tcolumns = words_lent(&mut tcolumns_all, words, 6);
-    let tvalues = doubles_lent(&mut tvalues_all, words, 7);
-    let ostarts = words_lent(&mut ostarts_all, words, 8);
-    let ocolumns = words_lent(&mut ocolumns_all, words, 9);
-    let ovalues = doubles_lent(&mut ovalues_all, words, 10);
-    let scaling = doubles_lent(&mut scaling_all, words, 11);
-    let needed = needs(rt, words, d)?;
-    let answer = setup::setup(
-        inputs::lattice(words, d),
-        inputs::list(words, d, 0),
-        inputs::list(words, d, 1),
-        inputs::list(words, d, 2),
-        inputs::list(words, d, 3),
-        inputs::list(words, d, 4),
-        inputs::list(words, d, 5),
-        inputs::list(words, d, 6),
-        inputs::choice(words),
-        inputs::coarsest(words),
-        ends,
-        eps,
-        starts,
-        columns,
-        values,
-        tstarts,
-        tcolumns,
-        tvalues,
-        ostarts,
-        ocolumns,
-        ovalues,
-        scaling,
-    );
-    let brief = inputs::brief(words);
+// The setup in the lent lists, and what comes behind it.
+fn run_in(rt: &impl Print, s: &mut Settings, l: &mut Lists<'_>) -> io::Result<()> {
+    let needed = needs(rt, s)?;
+    let answer = set_up(s, l);
     show::answer(rt, answer)?;
-    show::words(rt, "ends", ends, false)?;
-    show::doubles(rt, "permittivities", eps, brief)?;
-    three(rt, "forward", starts, columns, values, brief)?;
-    three(rt, "turned", tstarts, tcolumns, tvalues, brief)?;
-    three(rt, "operator", ostarts, ocolumns, ovalues, brief)?;
-    show::doubles(rt, "scaling", scaling, brief)?;
-    if accepted(answer) {
-        let c = needed.cells;
-        rows(rt, c, starts, values, tstarts, tvalues, ostarts, ocolumns)?;
-        steps::run(
-            rt, words, d, ends, eps, starts, columns, values, tstarts, tcolumns, tvalues, ostarts,
-            ocolumns, ovalues, scaling,
-        )?;
+    left(rt, l, s.brief())?;
+    if let (Ok(n), Ok(_)) = (needed, answer) {
+        rows(rt, n.cells, l)?;
+        steps::run(rt, s, l)?;
     }
     Ok(())
+}
+
+// The front of a list that is lent; none of it where it is too short.
+fn lent<T>(list: &mut [T], n: usize) -> &mut [T] {
+    list.get_mut(..n).unwrap_or(&mut [])
+}
+
+pub fn run(rt: &impl Print, s: &mut Settings) -> io::Result<()> {
+    let room = s.room;
+    let word = usize::mark();
+    let double = f64::mark();
+    let mut ends = [word; 256];
+    let mut eps = [double; 2048];
+    let mut starts = [word; 512];
+    let mut columns = [word; 1024];
+    let mut values = [double; 2048];
+    let mut tstarts = [word; 512];
+    let mut tcolumns = [word; 1024];
+    let mut tvalues = [double; 2048];
+    let mut ostarts = [word; 512];
+    let mut ocolumns = [word; 4096];
+    let mut ovalues = [double; 8192];
+    let mut scaling = [double; 2048];
+    let mut l = Lists {
+        ends: lent(&mut ends, room[0]),
+        eps: lent(&mut eps, room[1]),
+        starts: lent(&mut starts, room[2]),
+        columns: lent(&mut columns, room[3]),
+        values: lent(&mut values, room[4]),
+        tstarts: lent(&mut tstarts, room[5]),
+        tcolumns: lent(&mut tcolumns, room[6]),
+        tvalues: lent(&mut tvalues, room[7]),
+        ostarts: lent(&mut ostarts, room[8]),
+        ocolumns: lent(&mut ocolumns, room[9]),
+        ovalues: lent(&mut ovalues, room[10]),
+        scaling: lent(&mut scaling, room[11]),
+    };
+    run_in(rt, s, &mut l)
 }

@@ -1,15 +1,19 @@
 -- How many weights a transfer has: the sum over its rows of a product over the axes is, for each component, the product of the axes' sums.
 -- Assumes nothing.
-use Prim.Native.Nat.{ℕ, zero, suc, ◌+◌, ◌*◌, ◌<◌, ◌≤◌}
+use Prim.Native.Nat.{ℕ, zero, suc, ◌+◌, ◌-◌, ◌*◌, ◌<◌, ◌≤◌}
 use mathlib.Core.Path.{◌≡◌, refl, sym, ap, ◌∙◌}
 use mathlib.Core.Bool.{Bool, true, false}
 use mathlib.Core.List.{List}
 use native.Mathlib.Omega.{arith}
 use native.Mathlib.Nat.{mul-le-mul}
 use lib.Dec.{eqb}
-use lib.ListN.{length, get_or}
+use lib.ListN.{length, get_or, take, drop, length-drop}
+use Rattle.std.specs.Prelude.{sum}
+use Rattle.std.proofs.Common.{add-one}
+use Rattle.std.proofs.lemmas.List.{get_or-drop}
+use Rattle.std.proofs.lemmas.List.Sums.{sum_by_more}
 use Rattle.numbers.specs.Lists.{start_of, sum_to}
-use Rattle.numbers.proofs.SumLaws.{sum_to_zero, sum_to_suc, sum_agree, start_sum}
+use Rattle.numbers.proofs.SumLaws.{sum_to_zero, sum_to_suc, sum_agree, sum_most, start_sum}
 use Rattle.lattice.specs.declared.grid.Grid3d.{Grid3d}
 use Rattle.lattice.specs.Grid.{at_of, unknowns_of, Limits}
 use Rattle.weights.specs.TwoLevels.{TwoLevels, grid_with, fine_grid}
@@ -79,13 +83,37 @@ module _ {ns : List ℕ} (n : CountsOf ns) where
   unfolding slot_count
   slot_few c a i h l = n.few (slot_of a (eqb a c) i) (slot_below a i (eqb a c) h l)
 
--- a slot as the code has it
-pub slot_at : (a i : ℕ) (along : Bool) {q : ℕ} → q ≡ slot_of a along i → a < 3 → i < 64 → q < 384
-slot_at a i along {q} e h l = rw e (slot_below a i along h l)
+-- the slots of an axis and a component stand one behind another
+slot_next : (a i : ℕ) (along : Bool) → slot_of a along 0 + i ≡ slot_of a along i
+unfolding slot_of
+slot_next a i along = omega arith
 
-pub slot_read : (ns : List ℕ) (c a i : ℕ) {q v : ℕ} → q ≡ slot_of a (eqb a c) i → v ≡ get_or ns q 0 → v ≡ slot_count ns c a i
-unfolding slot_count
-slot_read ns c a i e h = h ∙ ap (λ (q : ℕ). get_or ns q 0) e
+sum_taken : (xs : List ℕ) (f : ℕ → ℕ) (n : ℕ) → n ≤ length xs → ((i : ℕ) → i < n → get_or xs i 0 ≡ f i) → sum (take n xs) ≡ sum_to f n
+sum_taken xs f zero h e = sym (sum_to_zero f)
+sum_taken xs f (suc n) h e =
+    let s : sum (take (n + 1) xs) ≡ sum (take n xs) + get_or xs n 0 = sum_by_more (λ x. x) xs n 0 (omega arith) in
+    rw (add-one n) at s ∙ omega (arith, sum_taken xs f n (omega arith) (λ i b. e i (omega arith)), e n (omega arith), sum_to_suc f n)
+
+module _ {ns : List ℕ} (m : CountsOf ns) (c a n : ℕ) {q : ℕ} (e : q ≡ slot_of a (eqb a c) 0) (h : a < 3) (l : n ≤ 64) where
+  pub slots_room : q + n ≤ length ns
+  unfolding slot_of
+  slots_room = go (eqb a c) e
+    where
+      go : (along : Bool) → q ≡ slot_of a along 0 → q + n ≤ length ns
+      go true e = omega (arith, m.long)
+      go false e = omega (arith, m.long)
+
+  pub axis_sum : sum (take (q + n - q) (drop q ns)) ≡ axis_count ns c a n
+  unfolding axis_count slot_count
+  axis_sum =
+      let k : q + n - q ≡ n = omega arith in
+      rw k
+      (sum_taken (drop q ns) (slot_count ns c a) n (omega (arith, length-drop q ns, slots_room))
+      (λ i b. get_or-drop q ns i 0 ∙ ap (λ (j : ℕ). get_or ns j 0) (ap (λ (j : ℕ). j + i) e ∙ slot_next a i (eqb a c))))
+
+  pub axis_most : axis_count ns c a n ≤ 128
+  unfolding axis_count
+  axis_most = omega (arith, sum_most (slot_count ns c a) 2 n (λ i b. slot_few m c a i h (omega arith)))
 
 -- the product of three of at most 128
 pub most_three : {x y z : ℕ} → x ≤ 128 → y ≤ 128 → z ≤ 128 → (x * y ≤ 16384) × (x * y * z ≤ 2097152)

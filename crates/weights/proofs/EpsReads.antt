@@ -1,8 +1,8 @@
 -- One coarse permittivity: what it reads, and what its cell, taken from a list of nodes, gives.
 -- Assumes nothing.
-use Prim.Native.Nat.{ℕ, ◌+◌, ◌-◌, ◌*◌, ◌<◌, ◌≤◌}
+use Prim.Native.Nat.{ℕ, zero, suc, ◌+◌, ◌-◌, ◌*◌, ◌<◌, ◌≤◌}
 use mathlib.Core.Path.{◌≡◌, refl, sym, ap, ◌∙◌}
-use mathlib.Core.Bool.{Bool, false}
+use mathlib.Core.Bool.{Bool, false, ◌||◌}
 use mathlib.Core.List.{List}
 use native.Mathlib.Omega.{arith}
 use lib.Dec.{T}
@@ -13,9 +13,12 @@ use Rattle.numbers.specs.declared.C64.{C64}
 use Rattle.numbers.specs.Complex.{zero_number, real_over}
 use Rattle.numbers.specs.Lists.{tabulate, summed, read_from, any_flag}
 use Rattle.numbers.proofs.TabulateLaws.{length_tabulate}
+use Rattle.numbers.proofs.Equations.{tabulate_zero, tabulate_suc}
+use Rattle.numbers.proofs.FlagLaws.{any_flag_nil, any_flag_cons}
+use Rattle.std.specs.List.{list_any, range_with_len}
 use Rattle.lattice.specs.declared.grid.Grid3d.{Grid3d}
 use Rattle.lattice.specs.declared.grid.Position.{Position}
-use Rattle.lattice.specs.Grid.{place_on, moved_to, index_of, at_of, unknowns_of, Limits, Inside}
+use Rattle.lattice.specs.Grid.{place_on, at_of, unknowns_of, Limits, Inside}
 use Rattle.lattice.proofs.GridLaws.{n_most, place_inside, at_inside}
 use Rattle.lattice.proofs.RowLaws.{small_float}
 use Rattle.weights.specs.declared.eps.Along.{Along}
@@ -72,11 +75,15 @@ module _ {gf gc : Grid3d} {nn : List ℕ} {r : ℕ} {c : Along} (lf : Limits gf)
 
 -- ---- the flags of the edges along a component
 
-pub edge_flag : (flags : List Bool) (g : Grid3d) (p : Position) (m : ℕ) {q : Position} {c : ℕ} {b d : Bool} → q ≡ moved_to p p.component m → c ≡ index_of g q → b ≡ get_or flags c false → b ≡ d
-    → get_or flags (edge_along g p m) false ≡ d
-unfolding edge_along
-edge_flag flags g p m e₁ e₂ e₃ e = rw (← e₁, ← e₂, ← e₃) e
+any_along : (flags : List Bool) (f : ℕ → ℕ) (n first : ℕ) → list_any (λ m. get_or flags (f m) false) (range_with_len first n) ≡ any_flag flags (tabulate f n first)
+any_along flags f zero first = sym (ap (any_flag flags) (tabulate_zero f first) ∙ any_flag_nil flags)
+any_along flags f (suc n) first =
+    let k : first + 1 ≡ suc first = omega arith in
+    let t : list_any (λ m. get_or flags (f m) false) (range_with_len (first + 1) n) ≡ any_flag flags (tabulate f n (suc first)) = rw k (any_along flags f n (suc first)) in
+    ap (λ b. get_or flags (f first) false || b) t
+    ∙ sym (ap (any_flag flags) (tabulate_suc f n first) ∙ any_flag_cons flags (f first) (tabulate f n (suc first)))
 
-pub flags_along : (flags : List Bool) (g : Grid3d) (p : Position) (first n : ℕ) {b : Bool} → b ≡ any_flag flags (tabulate (edge_along g p) n first) → b ≡ any_flag flags (edges_along g p first n)
+pub flags_along : (flags : List Bool) (g : Grid3d) (p : Position) (first n : ℕ)
+    → list_any (λ m. get_or flags (edge_along g p m) false) (range_with_len first n) ≡ any_flag flags (edges_along g p first n)
 unfolding edges_along
-flags_along flags g p first n h = h
+flags_along flags g p first n = any_along flags (edge_along g p) n first

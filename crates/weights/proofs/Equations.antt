@@ -21,7 +21,7 @@ use Rattle.lattice.specs.declared.grid.Grid3d.{Grid3d}
 use Rattle.lattice.specs.declared.grid.Position.{Position}
 use Rattle.lattice.specs.declared.lattice.Edges.{Edges}
 use Rattle.lattice.specs.declared.levels.Three.{Three}
-use Rattle.lattice.specs.declared.neighbours.Arrival.TheVariants.{To}
+use Rattle.lattice.specs.Neighbours.{to_place}
 use Rattle.lattice.proofs.NestLaws.{axis3_0, axis3_1, axis3_2}
 use Rattle.weights.specs.CoarseEps.{edge_along, edges_along}
 use Rattle.weights.specs.Interpolate.{high_side, meets, outside, rule_by, rule_of, rule_places, taken_places, up_to, value_at, value_places, whole}
@@ -71,7 +71,7 @@ pub rule_of_is : (e : Edges) (cs : List ℕ) (along : Bool) (p : ℕ) → rule_o
 unfolding rule_of
 rule_of_is e cs along p = refl
 
-pub high_side_is : (e : Edges) (n : ℕ) (h : ℕ) → high_side e n h ≡ cond (leb n h) (past_high e) (To h one_number)
+pub high_side_is : (e : Edges) (n : ℕ) (h : ℕ) → high_side e n h ≡ cond (leb n h) (past_high e) (to_place h one_number)
 unfolding high_side
 high_side_is e n h = refl
 

@@ -29,6 +29,7 @@ use Rattle.weights.proofs.PairLaws.{two_at_lem, paired_at}
 use Rattle.weights.specs.TwoLevels.{TwoLevels, fine_cells, node_on, fine_grid, coarse_grid, two_at, two_of}
 use Rattle.weights.specs.Prolongation.{is_along, read_place, read_edge, weight_at, weight_columns, weight_numbers, prolongation_row}
 use Rattle.weights.specs.Product.{free_places, free_terms, column_in, product_z, product_y, product_columns, term_of, product_terms_z, product_terms_y, product_terms, weight_count}
+pub use Rattle.weights.specs.Tables.{Slotted, Pulled}
 use Rattle.weights.specs.Tables.{slot_axis, slot_along, slot_place, slot_of, slot_places, slot_terms, count_entry, place_entry, node_entry, pull_entry, Paired, pull_in, pulls_in, slot_on, columns_in_z, columns_in_y, columns_in, weight_in, number_in, numbers_in_z, numbers_in_y, numbers_in, PlacesOf, NodesOf, RoomFor, SpanOf, columns_row, numbers_row, count_in, CountsOf, counted_to, count_from, place_from, node_no, node_from, map_no, end_no, lines_in, pull_from}
 use Rattle.weights.specs.declared.rows.Pull.{Pull}
 use Rattle.numbers.proofs.ListLaws.{rows_agree, long_as, read_at_lem, read_back, laid_numbers_same, start_agree, starts_agree}
@@ -39,8 +40,11 @@ use Rattle.numbers.proofs.LoopLaws.{either_below, tabulate_map, numbers_one, num
 use Rattle.weights.proofs.RowLaws.{slot_part}
 use Rattle.weights.proofs.TwoLevelLaws.{fine_n, coarse_n}
 use Rattle.weights.proofs.ProductLaws.{columns_product, terms_product, free_columns_lem, free_most, numbers_count, count_product, starts_few}
-use Rattle.weights.proofs.TableLaws.{no_term}
 use Rattle.weights.proofs.SlotLaws.{slot_most, slot_inside, coarse_some, Worked, at_fine, at_coarse, counts_are, places_are, nodes_are, places_low, pulls_are}
+
+-- a read past the end gives this
+abbrev no_term : Term
+no_term = record { column = 0; number = zero_number }
 
 -- ---- the slot of an axis, a role and a place
 
@@ -311,20 +315,6 @@ module _ {l : FullLattice} {fine coarse : Three} (p : Paired l fine coarse) {ps 
     nodes_of_lem = record { nodes_long = long_as (node_entry (two_of l fine coarse)) 768 o; node_in_is = node_in_is }
 
 -- ---- the rows, from grids and lists that are those of two levels
-
--- the places and the counts of the slots
-pub record Slotted (l : FullLattice) (fine coarse : Three) (gf gc : Grid3d) (ps ns : List ℕ) : Type 0 where
-  pub paired : Paired l fine coarse
-  pub fine_is : gf ≡ fine_grid (two_of l fine coarse)
-  pub coarse_is : gc ≡ coarse_grid (two_of l fine coarse)
-  pub counts : ns ≡ tabulate (count_entry (two_of l fine coarse)) 384 0
-  pub places : ps ≡ tabulate (place_entry (two_of l fine coarse)) 768 0
-
--- the fine places and the weights besides
-pub record Pulled (l : FullLattice) (fine coarse : Three) (gf gc : Grid3d) (ps ns ds : List ℕ) (xs : List Float) : Type 0 where
-  pub slots : Slotted l fine coarse gf gc ps ns
-  pub nodes : ds ≡ tabulate (node_entry (two_of l fine coarse)) 768 0
-  pub pulls : Numbers (pull_entry (two_of l fine coarse)) 768 xs
 
 -- both as they are worked out
 pub slotted : {l : FullLattice} {fine coarse : Three} {gf gc : Grid3d} {fs cs ps ns : List ℕ} → Worked l fine coarse gf gc fs cs

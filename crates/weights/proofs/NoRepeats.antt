@@ -13,7 +13,7 @@ use Rattle.numbers.specs.Complex.{one_number}
 use Rattle.lattice.specs.declared.grid.Position.{Position}
 use Rattle.lattice.specs.declared.lattice.Edges.{Edges}
 use Rattle.lattice.specs.declared.lattice.Edges.TheVariants.{Pml, Bloch}
-use Rattle.lattice.specs.declared.neighbours.Arrival.TheVariants.{To}
+use Rattle.lattice.specs.Neighbours.{to_place}
 use Rattle.lattice.specs.Grid.{unknowns_of, index_of, at_of, Limits, Inside}
 use Rattle.lattice.specs.Lattice.{FullLattice, edges_of, is_wall}
 use Rattle.numbers.specs.Lists.{some_repeats}
@@ -41,7 +41,7 @@ unfolding low_side high_side
 sides_distinct e n h s = go (eqb h 0) refl (leb n h) refl e
   where
     go : (x : Bool) → eqb h 0 ≡ x → (y : Bool) → leb n h ≡ y → (e : Edges)
-        → Distinct (side_places (cond x (past_first e n) (To (h - 1) one_number)) ++ side_places (cond y (past_high e) (To h one_number)))
+        → Distinct (side_places (cond x (past_first e n) (to_place (h - 1) one_number)) ++ side_places (cond y (past_high e) (to_place h one_number)))
     go true p true q e = absurd (omega (arith, eqb-true h 0 p, leb-true n h q))
     go true p false q Pml = distinct_one
     go true p false q (Bloch phase) = distinct_two (omega (arith, eqb-true h 0 p))

@@ -17,7 +17,8 @@ use Rattle.lattice.specs.declared.grid.Position.{Position}
 use Rattle.lattice.specs.declared.lattice.Edges.{Edges}
 use Rattle.lattice.specs.declared.lattice.Edges.TheVariants.{Pml, Bloch}
 use Rattle.lattice.specs.declared.neighbours.Arrival.{Arrival}
-use Rattle.lattice.specs.declared.neighbours.Arrival.TheVariants.{To, Beyond}
+use Rattle.std.specs.Prelude.{None, Some, Option}
+use Rattle.lattice.specs.Neighbours.{to_place}
 use Rattle.lattice.specs.Grid.{at_of}
 use Rattle.lattice.specs.Lattice.{FullLattice, edges_of, is_wall}
 use Rattle.lattice.specs.Line.{place_of}
@@ -147,11 +148,11 @@ terms_product t f g r =
 
 -- ---- the columns of the terms
 
-columns_side : (to : Arrival) (w : C64) → columns_of (side_terms to w) ≡ side_places to
-columns_side Beyond w = columns_of_nil
-columns_side (To m v) w = columns_one _
+columns_side : (to : Option Arrival) (w : C64) → columns_of (side_terms to w) ≡ side_places to
+columns_side None w = columns_of_nil
+columns_side (Some s) w = columns_one _
 
-columns_sides : (low high : Arrival) (s : C64) → columns_of (two_sides low high s) ≡ side_places low ++ side_places high
+columns_sides : (low high : Option Arrival) (s : C64) → columns_of (two_sides low high s) ≡ side_places low ++ side_places high
 unfolding two_sides
 columns_sides low high s =
     columns_append (side_terms low (one_minus s)) (side_terms high s) ∙ (λ i. columns_side low (one_minus s) i ++ columns_side high s i)
@@ -219,11 +220,11 @@ module _ (t : TwoLevels) (f g : ℕ → C64) where
 
 -- ---- how many columns
 
-side_most : (to : Arrival) → length (side_places to) ≤ 1
-side_most Beyond = omega arith
-side_most (To m v) = omega arith
+side_most : (to : Option Arrival) → length (side_places to) ≤ 1
+side_most None = omega arith
+side_most (Some s) = omega arith
 
-sides_most : (low high : Arrival) → length (side_places low ++ side_places high) ≤ 2
+sides_most : (low high : Option Arrival) → length (side_places low ++ side_places high) ≤ 2
 sides_most low high = omega (arith, length-append (side_places low) (side_places high), side_most low, side_most high)
 
 rule_most : (e : Edges) (n : ℕ) (rule : Rule) → length (rule_places e n rule) ≤ 2
@@ -293,7 +294,7 @@ low_inside : (e : Edges) (n h : ℕ) → 1 ≤ n → h ≤ n → All (λ m. m < 
 unfolding low_side
 low_inside e n h s b = go (eqb h 0) e
   where
-    go : (z : Bool) (e : Edges) → All (λ m. m < n) (side_places (cond z (past_first e n) (To (h - 1) one_number)))
+    go : (z : Bool) (e : Edges) → All (λ m. m < n) (side_places (cond z (past_first e n) (to_place (h - 1) one_number)))
     go true Pml = none
     go true (Bloch p) = more {x = n - 1} (omega arith) none
     go false e = more {x = h - 1} (omega arith) none
@@ -302,7 +303,7 @@ high_inside : (e : Edges) (n h : ℕ) → 1 ≤ n → All (λ m. m < n) (side_pl
 unfolding high_side
 high_inside e n h s = go (leb n h) refl e
   where
-    go : (z : Bool) → leb n h ≡ z → (e : Edges) → All (λ m. m < n) (side_places (cond z (past_high e) (To h one_number)))
+    go : (z : Bool) → leb n h ≡ z → (e : Edges) → All (λ m. m < n) (side_places (cond z (past_high e) (to_place h one_number)))
     go true q Pml = none
     go true q (Bloch p) = more {x = 0} (omega arith) none
     go false q e = more (leb-false n h q) none

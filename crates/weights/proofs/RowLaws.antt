@@ -9,21 +9,18 @@ use native.Mathlib.Nat.{mul-le-mul, mul-le-mul_left}
 use lib.ListN.{length, get_or}
 use lib.Ieee.{Float}
 use Rattle.numbers.specs.declared.C64.{C64}
-use Rattle.numbers.specs.Places.{number_at}
 use Rattle.lattice.specs.declared.grid.Grid3d.{Grid3d}
 use Rattle.lattice.specs.declared.grid.Position.{Position}
 use Rattle.lattice.specs.Grid.{n_of, at_of, unknowns_of, Limits, Inside}
-use Rattle.numbers.specs.Lists.{tabulate, each, Laid, entry_at}
+use Rattle.numbers.specs.Lists.{tabulate, rows, each, Laid, entry_at}
 use Rattle.numbers.proofs.TabulateLaws.{length_tabulate}
 use Rattle.lattice.proofs.GridLaws.{at_inside}
 use Rattle.numbers.proofs.TermLaws.{each_most}
-use Rattle.numbers.proofs.RowLoops.{Going, going_start, going_turn, going_end}
 use Rattle.numbers.proofs.LoopLaws.{each_tabulate}
 use Rattle.weights.specs.declared.rows.Pull.{Pull}
-use Rattle.weights.specs.declared.rows.Span.{Span}
 use Rattle.weights.specs.Prolongation.{is_along}
 use Rattle.weights.specs.Product.{column_in}
-use Rattle.weights.specs.Tables.{slot_of, slot_on, pull_in, PlacesOf, NodesOf, SpanOf, columns_in_z, columns_in_y, columns_in, number_in, numbers_in_z, numbers_in_y, numbers_in}
+use Rattle.weights.specs.Tables.{slot_of, slot_on, pull_in, PlacesOf, NodesOf, columns_in_z, columns_in_y, columns_in, number_in, numbers_in_z, numbers_in_y, numbers_in}
 
 -- ---- the slot of a position on an axis
 
@@ -48,15 +45,6 @@ place_on_lem {q = q} {d = d} u s h = rw s.axis_is at (u.place_in q d s.below h)
 
 pub node_on_lem : {g : Grid3d} {ds ns : List ℕ} {q a d : ℕ} → NodesOf g ds ns → SlotOf q a → d < get_or ns q 0 → get_or ds (2 * q + d) 0 < n_of g a
 node_on_lem {q = q} {d = d} u s h = rw s.axis_is at (u.node_in_is q d s.below h)
-
--- an entry with both
-pub record PullIn (s : Span) (a : ℕ) (z : Pull) : Type 0 where
-  pub place_low : z.place < n_of s.coarse a
-  pub node_low : z.node < n_of s.fine a
-
-pub pull_in_lem : {s : Span} {ps ds ns : List ℕ} {xs eps : List Float} {q a d : ℕ} {z : Pull} → SpanOf s ps ds ns xs eps → SlotOf q a → d < get_or ns q 0
-    → z ≡ record { place = get_or ps (2 * q + d) 0; node = get_or ds (2 * q + d) 0; weight = number_at xs (2 * q + d) } → PullIn s a z
-pull_in_lem u v h e = rw e (record { place_low = place_on_lem u.places v h; node_low = node_on_lem u.nodes v h })
 
 -- the product of two short counts, and of three
 pub two_few : {x y : ℕ} → x ≤ 2 → y ≤ 2 → x * y ≤ 4
@@ -106,28 +94,20 @@ module _ {g : Grid3d} {ps ns : List ℕ} (u : PlacesOf g ps ns) (p : Position) w
     unfolding numbers_in
     numbers_most h l m = entries_few (numbers_in_y gf g f e ps ds ns xs p) (pull_in ps ds xs) 4 0 p.i (omega arith) h (numbers_y_most l m)
 
--- ---- a loop that lays what f gives for each of the n entries of slot q of axis a, from entry 2 q on, at most b for each, m of them done
+-- ---- the entries of a slot, one behind another
 
-pub record AtSlot {L E A : Type 0} (put : L → ℕ → A → L) (f : E → List A) (entry : ℕ → E) (a b q n from : ℕ) (xs₀ xs : L) (k m : ℕ) : Type 0 where
+-- a slot of a position has at most two entries, and its lists reach that far
+pub record Few (q a n : ℕ) : Type 0 where
   pub slot : SlotOf q a
-  pub few : n ≤ 2
-  pub going : Going put f (λ d. entry (2 * q + d)) b n from xs₀ xs k m
+  pub most : n ≤ 2
 
-module _ {L E A : Type 0} {put : L → ℕ → A → L} {f : E → List A} {entry : ℕ → E} {a b q n from : ℕ} where
-  pub slot_start : {g : Grid3d} {ps ns : List ℕ} (p : Position) (i : ℕ) {xs : L}
-      → PlacesOf g ps ns → q ≡ slot_on p a i → a < 3 → i < 64 → n ≡ get_or ns q 0 → AtSlot put f entry a b q n from xs xs from 0
-  slot_start p i u e h l c =
-      let s : SlotOf q a = slot_is p a i e h l in
-      record { slot = s; few = omega (arith, u.few q s.below); going = going_start }
+pub few_at : {g : Grid3d} {ps ns : List ℕ} {q a : ℕ} (p : Position) (i : ℕ) → PlacesOf g ps ns → q ≡ slot_on p a i → a < 3 → i < 64 → Few q a (get_or ns q 0)
+few_at {q = q} {a} p i u e h l = let s : SlotOf q a = slot_is p a i e h l in record { slot = s; most = u.few q s.below }
 
-  pub slot_turn : {xs₀ xs ys : L} {k r m : ℕ} {v : E}
-      → AtSlot put f entry a b q n from xs₀ xs k m → m < n → v ≡ entry (2 * q + m) → Laid put xs k (f v) ys r → length (f v) ≤ b → AtSlot put f entry a b q n from xs₀ ys r (m + 1)
-  slot_turn u h e w l = record { slot = u.slot; few = u.few; going = going_turn u.going h e w l }
-
-  -- all entries of slot s
-  pub slot_end : {s k m : ℕ} {xs₀ xs : L} (ns : List ℕ) → AtSlot put f entry a b q n from xs₀ xs k m → n ≤ m → q ≡ s → n ≡ get_or ns q 0
-      → Laid put xs₀ from (each f (tabulate entry (get_or ns s 0) (2 * s))) xs k
-  slot_end {s} ns u h e c = rw (each_tabulate f entry (2 * s) (get_or ns s 0), ← e) (going_end u.going h c)
+-- what has been laid for each entry has been laid for the slot
+pub slot_laid : {L E A : Type 0} {put : L → ℕ → A → L} (f : E → List A) (entry : ℕ → E) (ns : List ℕ) {q s from k : ℕ} {xs ys : L} → q ≡ s
+    → Laid put xs from (rows (λ d. f (entry (2 * q + d))) (get_or ns q 0)) ys k → Laid put xs from (each f (tabulate entry (get_or ns s 0) (2 * s))) ys k
+slot_laid f entry ns {s = s} e h = rw (each_tabulate f entry (2 * s) (get_or ns s 0), ← e) h
 
 -- ---- edges of a grid
 

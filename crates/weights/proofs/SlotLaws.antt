@@ -25,10 +25,11 @@ use Rattle.lattice.specs.Stretched.{across_map, along_map}
 use Rattle.lattice.proofs.GridLaws.{axis_each, n_some, n_most}
 use Rattle.lattice.proofs.LineLaws.{length_ends, ends_at}
 use Rattle.numbers.proofs.TabulateLaws.{length_tabulate, tabulate_at, is_tabulate, tabulate_agree}
-use Rattle.weights.specs.TwoLevels.{TwoLevels, fine_line, coarse_line, fine_cells, coarse_cells, grid_with, fine_grid, coarse_grid, two_of}
+use Rattle.weights.specs.TwoLevels.{TwoLevels, fine_line, coarse_line, fine_cells, coarse_cells, fine_grid, coarse_grid, two_of}
 use Rattle.weights.specs.Interpolate.{value_at, value_places, taken_places, interpolated}
 use Rattle.weights.specs.Prolongation.{axis_places, axis_terms}
 use Rattle.weights.specs.Product.{walled, kept_places, kept_terms, free_places, free_terms}
+pub use Rattle.weights.specs.Tables.{Worked}
 use Rattle.weights.specs.Tables.{slot_axis, slot_along, slot_place, slot_places, slot_terms, count_entry, place_entry, node_entry, pull_entry, value_entry, lines_in, node_no, map_no, map_point, map_in, HeldThree, Paired, slot_wall, slot_block, slot_taken, slot_pulled, count_from, place_from, node_from, pull_from, end_no, ValuesOf, EndsOf}
 use Rattle.numbers.proofs.ListLaws.{long_as, read_at_lem}
 use Rattle.weights.proofs.ProductLaws.{free_most, free_inside}
@@ -127,13 +128,6 @@ ends_of_lem {coarse} h e =
     }
 
 -- ---- what the lists of a transfer are worked out from
-
-pub record Worked (l : FullLattice) (fine coarse : Three) (gf gc : Grid3d) (fs cs : List ℕ) : Type 0 where
-  pub paired : Paired l fine coarse
-  pub fine_is : gf ≡ grid_with l.grid fine.x.cells fine.y.cells fine.z.cells
-  pub coarse_is : gc ≡ grid_with l.grid coarse.x.cells coarse.y.cells coarse.z.cells
-  pub values_fine : fs ≡ tabulate (value_entry (lines_in fine)) 384 0
-  pub values_coarse : cs ≡ tabulate (value_entry (lines_in coarse)) 384 0
 
 module _ {l : FullLattice} {fine coarse : Three} {gf gc : Grid3d} {fs cs : List ℕ} (w : Worked l fine coarse gf gc fs cs) where
   pub at_fine : gf ≡ fine_grid (two_of l fine coarse)

@@ -1,7 +1,7 @@
 -- Interpolation along one axis (docs/SPECIFICATION.md, 7): which coarse values a fine place takes (structure), and with which weights (numbers).
 -- A value is along the axis or across it (the component's role there). Places are half-steps of the finest grid.
 -- Assumes nothing.
-use Rattle.std.specs.Prelude.{ℕ, suc, ◌+◌, ◌-◌, Bool, ◌&&◌, ◌||◌, cond, List, [], ◌∷◌, ◌++◌, eqb, leb, length, get_or, pos, Float}
+use Rattle.std.specs.Prelude.{ℕ, suc, ◌+◌, ◌-◌, Bool, ◌&&◌, ◌||◌, cond, List, [], ◌∷◌, ◌++◌, eqb, leb, length, get_or, pos, Float, Option, Some, None, option_map, option_to_list}
 use Rattle.std.specs.Float.{binary64}
 use Rattle.std.specs.Float.Ieee.{of_int}
 use Rattle.numbers.specs.declared.C64.{C64}
@@ -9,12 +9,14 @@ use Rattle.numbers.specs.Complex.{sub_f, zero_f, no_number, one_number, product,
 use Rattle.lattice.specs.declared.lattice.Edges.{Edges}
 use Rattle.lattice.specs.declared.lattice.Edges.TheVariants.{Pml, Bloch}
 use Rattle.lattice.specs.declared.neighbours.Arrival.{Arrival}
-use Rattle.lattice.specs.declared.neighbours.Arrival.TheVariants.{To, Beyond}
 use Rattle.numbers.specs.Lists.{tabulate, before}
 use Rattle.lattice.specs.Lattice.{is_wall}
 use Rattle.lattice.specs.Line.{place_of}
-use Rattle.lattice.specs.Neighbours.{past_high}
+use Rattle.lattice.specs.Neighbours.{to_place, past_high}
 use Rattle.numbers.specs.Terms.{Term}
+use Rattle.weights.specs.declared.interpolate.Few.{Few}
+use Rattle.weights.specs.declared.interpolate.Share.{Share}
+use Rattle.weights.specs.declared.interpolate.Share.TheVariants.{There, Low, High}
 use Rattle.weights.specs.declared.interpolate.Rule.{Rule}
 use Rattle.weights.specs.declared.interpolate.Rule.TheVariants.{Coincides, Nearest, Between, Dropped}
 
@@ -49,20 +51,20 @@ unfoldable pub rule_of : Edges → List ℕ → Bool → ℕ → Rule
 rule_of e cs along p = rule_by (is_wall e) along (length cs) (up_to cs p) (meets cs p (up_to cs p))
 
 -- before the first of n values: nothing beyond a wall; on a Bloch axis the last, with the inverse of p
-abbrev pub past_first : Edges → ℕ → Arrival
-past_first Pml n = Beyond
-past_first (Bloch p) n = To (n - 1) (inverse p)
+abbrev pub past_first : Edges → ℕ → Option Arrival
+past_first Pml n = None
+past_first (Bloch p) n = to_place (n - 1) (inverse p)
 
 -- the two neighbours where h values lie before the place, each with its phase: (1, 0) inside, p past the last value
-unfoldable pub low_side : Edges → ℕ → ℕ → Arrival
-low_side e n h = cond (eqb h 0) (past_first e n) (To (h - 1) one_number)
+unfoldable pub low_side : Edges → ℕ → ℕ → Option Arrival
+low_side e n h = cond (eqb h 0) (past_first e n) (to_place (h - 1) one_number)
 
-unfoldable pub high_side : Edges → ℕ → ℕ → Arrival
-high_side e n h = cond (leb n h) (past_high e) (To h one_number)
+unfoldable pub high_side : Edges → ℕ → ℕ → Option Arrival
+high_side e n h = cond (leb n h) (past_high e) (to_place h one_number)
 
-abbrev pub side_places : Arrival → List ℕ
-side_places Beyond = []
-side_places (To m phase) = m ∷ []
+abbrev pub side_places : Option Arrival → List ℕ
+side_places None = []
+side_places (Some s) = s.at ∷ []
 
 abbrev pub rule_places : Edges → ℕ → Rule → List ℕ
 rule_places e n (Coincides m) = m ∷ []
@@ -104,11 +106,11 @@ unfoldable pub ratio_at : Edges → List C64 → List ℕ → ℕ → ℕ → �
 ratio_at e x cs period p h = ratio (coordinate e x p) (low_coordinate e x cs period h) (high_coordinate e x cs period h)
 
 -- a neighbour's share times its phase; one outside gets nothing, and its share goes to nobody
-abbrev pub side_terms : Arrival → C64 → List Term
-side_terms Beyond w = []
-side_terms (To m phase) w = record { column = m; number = product w phase } ∷ []
+abbrev pub side_terms : Option Arrival → C64 → List Term
+side_terms None w = []
+side_terms (Some s) w = record { column = s.at; number = product w s.phase } ∷ []
 
-unfoldable pub two_sides : Arrival → Arrival → C64 → List Term
+unfoldable pub two_sides : Option Arrival → Option Arrival → C64 → List Term
 two_sides low high t = side_terms low (one_minus t) ++ side_terms high t
 
 abbrev pub rule_terms : Edges → ℕ → C64 → Rule → List Term
@@ -121,3 +123,40 @@ rule_terms e n t (Dropped h) = two_sides (low_side e n h) (high_side e n h) t
 unfoldable pub interpolated : Edges → List C64 → List ℕ → ℕ → Bool → ℕ → List Term
 interpolated e x cs period along p =
     rule_terms e (length cs) (ratio_at e x cs period p (up_to cs p)) (rule_of e cs along p)
+
+-- ---- the same in one: which values are taken, and with which share
+
+-- a value taken: its place; its weight where the fine place lies t of the way from the low neighbour to the high one; both as a term
+abbrev pub share_place : Share → ℕ
+share_place (There m) = m
+share_place (Low s) = s.at
+share_place (High s) = s.at
+
+abbrev pub share_weight : C64 → Share → C64
+share_weight t (There m) = one_number
+share_weight t (Low s) = product (one_minus t) s.phase
+share_weight t (High s) = product t s.phase
+
+abbrev pub share_term : C64 → Share → Term
+share_term t s = record { column = share_place s; number = share_weight t s }
+
+abbrev pub few_list : Few → List Share
+few_list s = option_to_list s.first ++ option_to_list s.second
+
+abbrev pub side_shares : Option Arrival → Option Arrival → List Share
+side_shares low high = option_to_list (option_map Low low) ++ option_to_list (option_map High high)
+
+abbrev pub rule_shares : Edges → ℕ → Rule → List Share
+rule_shares e n (Coincides m) = There m ∷ []
+rule_shares e n (Nearest m) = There m ∷ []
+rule_shares e n (Between h) = side_shares (low_side e n h) (high_side e n h)
+rule_shares e n (Dropped h) = side_shares (low_side e n h) (high_side e n h)
+
+-- those that place p takes
+unfoldable pub shares_in : Edges → List ℕ → Bool → ℕ → List Share
+shares_in e cs along p = rule_shares e (length cs) (rule_of e cs along p)
+
+-- without place 0 where it is fixed
+unfoldable pub kept_shares : Bool → List Share → List Share
+kept_shares wall [] = []
+kept_shares wall (s ∷ ss) = cond (wall && eqb (share_place s) 0) (kept_shares wall ss) (s ∷ kept_shares wall ss)

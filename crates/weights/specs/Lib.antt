@@ -3,6 +3,7 @@ pub mod Interpolate
 pub mod Prolongation
 pub mod CoarseEps
 pub mod Product
+pub mod Calls
 pub mod Tables
 pub mod Whole
 pub mod Cases

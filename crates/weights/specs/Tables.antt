@@ -1,7 +1,7 @@
 -- How the weights of the axes are held while a transfer is worked out (docs/SPECIFICATION.md, 7): in lists, a slot for each axis, role and place.
 -- Slot q is that of axis q / 128, along it if q / 64 is odd and else across it, place q % 64. A slot has at most two entries, 2 q and 2 q + 1.
 -- Assumes nothing.
-use Rattle.std.specs.Prelude.{ℕ, zero, suc, ◌+◌, ◌-◌, ◌*◌, ◌/◌, ◌%◌, ◌<◌, ◌≤◌, ◌^◌, ◌≡◌, Bool, ◌&&◌, cond, List, [], ◌∷◌, eqb, ltb, length, get_or, Float}
+use Rattle.std.specs.Prelude.{ℕ, zero, suc, ◌+◌, ◌-◌, ◌*◌, ◌/◌, ◌%◌, ◌<◌, ◌≤◌, ◌^◌, ◌≡◌, Bool, ◌&&◌, cond, List, [], ◌∷◌, eqb, ltb, length, get_or, take, drop, Float}
 use Rattle.numbers.specs.declared.C64.{C64}
 use Rattle.numbers.specs.Complex.{zero_number, no_number, product, quotient}
 use Rattle.numbers.specs.Places.{number_at}
@@ -10,17 +10,16 @@ use Rattle.lattice.specs.declared.grid.Position.{Position}
 use Rattle.lattice.specs.declared.levels.Three.{Three}
 use Rattle.lattice.specs.Grid.{axis3, n_of, index_of, at_of, unknowns_of, place_on, moved_to, Limits, Inside}
 use Rattle.lattice.specs.Line.{ends_of, place_of, Held}
-use Rattle.numbers.specs.Lists.{Rises, tabulate, each, laid_numbers, all_finite, places_in, read_from, sum_to}
+use Rattle.numbers.specs.Lists.{Rises, Numbers, tabulate, each, laid_numbers, all_finite, places_in, read_from, sum_to}
 use Rattle.lattice.specs.Stretched.{across_map, along_map, map_points}
 use Rattle.lattice.specs.Lattice.{FullLattice, edges_of}
 use Rattle.numbers.specs.Terms.{Term, numbers_of}
-use Rattle.weights.specs.TwoLevels.{TwoLevels, fine_cells, coarse_cells, node_on, two_of, fine_grid, coarse_grid}
+use Rattle.weights.specs.TwoLevels.{TwoLevels, grid_with, fine_cells, coarse_cells, node_on, two_of, fine_grid, coarse_grid}
 use Rattle.weights.specs.Prolongation.{is_along, edge_at}
 use Rattle.weights.specs.CoarseEps.{edges_along, harmonic}
-use Rattle.weights.specs.Interpolate.{taken_places, interpolated}
+use Rattle.weights.specs.Interpolate.{taken_places, interpolated, up_to, ratio_at, shares_in, kept_shares}
 use Rattle.weights.specs.Product.{walled, column_in, kept_places, kept_terms, free_places, free_terms}
-use Rattle.weights.specs.declared.interpolate.Spots.{Spots}
-use Rattle.weights.specs.declared.interpolate.Pulls.{Pulls}
+use Rattle.weights.specs.declared.interpolate.Share.{Share}
 use Rattle.weights.specs.declared.eps.Along.{Along}
 use Rattle.weights.specs.declared.rows.Pull.{Pull}
 use Rattle.weights.specs.declared.rows.Span.{Span}
@@ -208,29 +207,6 @@ count_in ns p = get_or ns (slot_on p 0 p.i) 0 * get_or ns (slot_on p 1 p.j) 0 * 
 
 -- ---- slots worked out from the lists: the values' places on the fine lines fs and on the coarse ones cs, the maps xs and the coarse ends es
 
--- at most two of a list by value: the count, then the elements, zero where there is none
-abbrev pub spots_of : List ℕ → Spots
-spots_of [] = record { count = 0; first = 0; second = 0 }
-spots_of (a ∷ []) = record { count = 1; first = a; second = 0 }
-spots_of (a ∷ (b ∷ ms)) = record { count = 2; first = a; second = b }
-
-abbrev pub pulls_of : List Term → Pulls
-pulls_of [] = record { count = 0; first = 0; low = zero_number; second = 0; high = zero_number }
-pulls_of (a ∷ []) = record { count = 1; first = a.column; low = a.number; second = 0; high = zero_number }
-pulls_of (a ∷ (b ∷ ts)) = record { count = 2; first = a.column; low = a.number; second = b.column; high = b.number }
-
--- and back
-unfoldable pub spot_list : Spots → List ℕ
-spot_list s = cond (eqb s.count 0) [] (cond (eqb s.count 1) (s.first ∷ []) (s.first ∷ (s.second ∷ [])))
-
-unfoldable pub pull_list : Pulls → List Term
-pull_list s =
-    cond (eqb s.count 0)
-    []
-    (cond (eqb s.count 1)
-    (record { column = s.first; number = s.low } ∷ [])
-    (record { column = s.first; number = s.low } ∷ (record { column = s.second; number = s.high } ∷ [])))
-
 -- a component across a wall axis is fixed at place 0
 unfoldable pub slot_wall : FullLattice → ℕ → Bool
 slot_wall l q = walled l (slot_axis q) (slot_along q)
@@ -255,6 +231,24 @@ slot_pulled l gf gc fs cs xs es q =
     (kept_terms (slot_wall l q)
     (interpolated (edges_of l (slot_axis q)) (map_in xs (q / 64)) (slot_block gc cs q) (get_or es (slot_axis q) 0) (slot_along q) (get_or fs q 0))))
     []
+
+-- the same in one: which values it takes, and with which share
+unfoldable pub slot_shares : FullLattice → Grid3d → Grid3d → List ℕ → List ℕ → ℕ → List Share
+slot_shares l gf gc fs cs q =
+    cond (ltb (slot_place q) (n_of gf (slot_axis q)))
+    (cond (slot_wall l q && eqb (slot_place q) 0)
+    []
+    (kept_shares (slot_wall l q) (shares_in (edges_of l (slot_axis q)) (slot_block gc cs q) (slot_along q) (get_or fs q 0))))
+    []
+
+-- entry e, if its slot has it
+unfoldable pub entry_share : FullLattice → Grid3d → Grid3d → List ℕ → List ℕ → ℕ → List Share
+entry_share l gf gc fs cs e = take 1 (drop (e % 2) (slot_shares l gf gc fs cs (e / 2)))
+
+-- how far its place lies from the low neighbour to the high one
+unfoldable pub slot_ratio : FullLattice → Grid3d → List ℕ → List ℕ → List Float → List ℕ → ℕ → C64
+slot_ratio l gc fs cs xs es q =
+    ratio_at (edges_of l (slot_axis q)) (map_in xs (q / 64)) (slot_block gc cs q) (get_or es (slot_axis q) 0) (get_or fs q 0) (up_to (slot_block gc cs q) (get_or fs q 0))
 
 unfoldable pub count_from : FullLattice → Grid3d → Grid3d → List ℕ → List ℕ → ℕ → ℕ
 count_from l gf gc fs cs q = length (slot_taken l gf gc fs cs q)
@@ -283,6 +277,30 @@ pub record ValuesOf (fs cs : List ℕ) : Type 0 where
 pub record EndsOf (es : List ℕ) : Type 0 where
   pub ends_long : length es ≡ 3
   pub end_low : (a : ℕ) → a < 3 → get_or es a 0 < map_points
+
+-- ---- what the tables of two levels hold
+
+-- the grids, and the places of the values
+pub record Worked (l : FullLattice) (fine coarse : Three) (gf gc : Grid3d) (fs cs : List ℕ) : Type 0 where
+  pub paired : Paired l fine coarse
+  pub fine_is : gf ≡ grid_with l.grid fine.x.cells fine.y.cells fine.z.cells
+  pub coarse_is : gc ≡ grid_with l.grid coarse.x.cells coarse.y.cells coarse.z.cells
+  pub values_fine : fs ≡ tabulate (value_entry (lines_in fine)) 384 0
+  pub values_coarse : cs ≡ tabulate (value_entry (lines_in coarse)) 384 0
+
+-- the places and the counts of the slots
+pub record Slotted (l : FullLattice) (fine coarse : Three) (gf gc : Grid3d) (ps ns : List ℕ) : Type 0 where
+  pub paired : Paired l fine coarse
+  pub fine_is : gf ≡ fine_grid (two_of l fine coarse)
+  pub coarse_is : gc ≡ coarse_grid (two_of l fine coarse)
+  pub counts : ns ≡ tabulate (count_entry (two_of l fine coarse)) 384 0
+  pub places : ps ≡ tabulate (place_entry (two_of l fine coarse)) 768 0
+
+-- the fine places and the weights besides
+pub record Pulled (l : FullLattice) (fine coarse : Three) (gf gc : Grid3d) (ps ns ds : List ℕ) (xs : List Float) : Type 0 where
+  pub slots : Slotted l fine coarse gf gc ps ns
+  pub nodes : ds ≡ tabulate (node_entry (two_of l fine coarse)) 768 0
+  pub pulls : Numbers (pull_entry (two_of l fine coarse)) 768 xs
 
 -- ---- coarse permittivities from the lists: the nodes nn, 65 for each axis
 

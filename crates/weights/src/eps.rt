@@ -1,14 +1,15 @@
 // The permittivities of a coarse level from those of the level before.
 // `requires`: two levels' grids within the limits, the coarse nodes' numbers on the fine level, and room in the list.
 
-ghost use Rattle.std.specs.Prelude.{◌≡◌, [], ◌∷◌, ℕ, ◌+◌, ◌-◌, ◌*◌, ◌<◌, ◌≤◌, ◌^◌, length, get_or};
+ghost use Rattle.std.specs.Prelude.{◌≡◌, [], ◌∷◌, ℕ, ◌+◌, ◌-◌, ◌*◌, ◌<◌, ◌≤◌, ◌^◌, length, get_or, false};
 ghost use Rattle.numbers.specs.Complex.{zero_number, finite};
 ghost use Rattle.numbers.specs.Places.{number_at, set_number};
 ghost use Rattle.lattice.specs.Grid.{unknowns_of, Limits, place_on, at_of};
 ghost use Rattle.lattice.specs.Lattice.{full_lattice};
 ghost use Rattle.numbers.specs.Lists.{tabulate, summed, laid_numbers, all_finite, read_from, any_flag};
 ghost use Rattle.weights.specs.TwoLevels.{fine_grid, coarse_grid, two_of};
-ghost use Rattle.weights.specs.CoarseEps.{edges_along, inverted, coarse_eps};
+ghost use Rattle.std.specs.List.{list_any, range_with_len};
+ghost use Rattle.weights.specs.CoarseEps.{edge_along, edges_along, inverted, coarse_eps};
 ghost use Rattle.weights.specs.Tables.{Paired, NestedIn, ChainRoom, LineInside, on_fine_in, coarse_eps_in, eps_reads_in, CellAt, node_count};
 
 use crate::tables;
@@ -57,10 +58,11 @@ pub fn sum_of_inverses(
     requires line_inside { LineInside gf p last }
     ensures { result ≡ summed (inverted (read_from eps.now from)) zero_number (edges_along gf p first (last - first)) }
 {
-    let mut sum = numbers::zero();
+    let mut sum = C64::zero();
+    // The place itself, not an index: each is worked out from m, and the sum keeps their order.
     for m in first..last {
         let c = grid::index(gf, grid::moved_to(p, p.component, m));
-        sum = numbers::add(sum, numbers::real_over(1.0, numbers::get(eps, from + c)));
+        sum = sum + 1.0 / numbers::get(eps, from + c);
     }
     sum
 }
@@ -97,7 +99,7 @@ pub fn coarse_eps_at(
 {
     let c = cell_at(gc, nn, r);
     let sum = sum_of_inverses(gf, eps, from, c.node, c.first, c.last);
-    numbers::real_over((c.last - c.first) as f64, sum)
+    (c.last - c.first) as f64 / sum
 }
 
 // The same laid at place to + r of the list that is read; whether it is finite.
@@ -119,23 +121,17 @@ pub fn coarse_eps_row(
 {
     let v = coarse_eps_at(gf, gc, nn, eps, from, r);
     numbers::put(eps, to + r, v);
-    numbers::is_finite(v)
+    v.is_finite()
 }
 
 // Whether one of the edges at places first to last - 1 along the component of p is flagged.
+#[tactic(auto, unfolding(crate::specs::CoarseEps::edge_along))]
 fn line_flagged(gf: Grid3d, flags: &[bool], p: Position, first: usize, last: usize) -> bool
     requires limits { Limits gf }
     requires first_le_last { (first ≤ last) × (LineInside gf p last) }
-    ensures { result ≡ any_flag flags.now (edges_along gf p first (last - first)) }
+    ensures { result ≡ list_any (λ m. get_or flags.now (edge_along gf p m) false) (range_with_len first (last - first)) }
 {
-    let n = last - first;
-    for m in 0..n {
-        let c = grid::index(gf, grid::moved_to(p, p.component, first + m));
-        if lists::flagged(flags, c) {
-            return true;
-        }
-    }
-    false
+    (first..last).any(|m| lists::flagged(flags, grid::index(gf, grid::moved_to(p, p.component, m))))
 }
 
 // Whether one of the fine edges that the permittivity of coarse edge r reads is flagged.

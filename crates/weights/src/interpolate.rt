@@ -1,17 +1,16 @@
 // Interpolation along one axis: which coarse values a fine place takes, and with which weights.
-// `requires` of these functions: n coarse values in a list, whose places are given from `from` on; at least one, as every line has.
+// `requires` of these functions: the places of the coarse values in a list; at least one, as every line has.
 // Where a place is made a double: places of a lattice, at most 128, so that it is exact.
 
-ghost use Rattle.std.specs.Prelude.{◌≡◌, ℕ, ◌+◌, ◌-◌, ◌*◌, ◌<◌, ◌≤◌, length, get_or, [], ◌∷◌, ◌++◌};
+ghost use Rattle.std.specs.Prelude.{◌≡◌, [], ◌∷◌, ℕ, ◌<◌, ◌≤◌, length, get_or, take, drop, option_to_list, position, nat_lt};
 ghost use Rattle.numbers.specs.Complex.{no_number};
-ghost use Rattle.lattice.specs.Lattice.{is_wall};
-ghost use Rattle.weights.specs.Interpolate.{up_to, meets as meets_at, outside as outside_of, rule_by, rule_of, low_side, high_side, side_places, rule_places, taken_places, coordinate as coordinate_at, low_coordinate, high_coordinate, ratio as ratio_of, ratio_at, side_terms, two_sides, rule_terms, interpolated};
-ghost use Rattle.weights.specs.Product.{kept_places, kept_terms};
-ghost use Rattle.numbers.specs.Lists.{places_in};
-ghost use Rattle.weights.specs.Tables.{spots_of, spot_list, pulls_of, pull_list, map_in, all_slots};
 ghost use Rattle.lattice.specs.Stretched.{map_points};
+ghost use Rattle.weights.specs.Interpolate.{up_to, meets as meets_at, outside as outside_of, rule_by, rule_of, low_side, high_side, coordinate as coordinate_at, low_coordinate, high_coordinate, ratio as ratio_of, ratio_at, share_place, share_weight, few_list, side_shares, rule_shares, shares_in, kept_shares};
+ghost use Rattle.weights.specs.declared.interpolate.Share.TheVariants.{There};
+ghost use Rattle.weights.specs.Tables.{map_in};
 
 use lattice::lattice::Edges;
+use lattice::neighbours;
 use lattice::neighbours::Arrival;
 use numbers::C64;
 
@@ -25,72 +24,136 @@ pub enum Rule {
     Dropped(usize),
 }
 
-// At most two coarse places, zero where there is none.
+// A coarse value that a place takes: the one that lies there, or a share of a neighbour's.
 #[derive(Clone, Copy)]
-pub struct Spots {
-    pub count: usize,
-    pub first: usize,
-    pub second: usize,
+pub enum Share {
+    There(usize),
+    Low(Arrival),
+    High(Arrival),
 }
 
-// The same with their weights.
+// At most two of them, in order.
 #[derive(Clone, Copy)]
-pub struct Pulls {
-    pub count: usize,
-    pub first: usize,
-    pub low: C64,
-    pub second: usize,
-    pub high: C64,
+pub struct Few {
+    pub first: Option<Share>,
+    pub second: Option<Share>,
+}
+
+impl Share {
+    // The coarse value.
+    pub fn place(self) -> usize
+        ensures { result ≡ share_place self }
+    {
+        match self {
+            Share::There(m) => m,
+            Share::Low(to) => to.at,
+            Share::High(to) => to.at,
+        }
+    }
+
+    // Its weight, where the place lies t of the way from the low neighbour to the high one: a neighbour's share times its phase.
+    pub fn weight(self, t: C64) -> C64
+        ensures { result ≡ share_weight t self }
+    {
+        match self {
+            Share::There(_) => C64::one(),
+            Share::Low(to) => t.one_minus() * to.phase,
+            Share::High(to) => t * to.phase,
+        }
+    }
+}
+
+impl Few {
+    pub fn none() -> Few
+        ensures { few_list result ≡ [] }
+    {
+        Few {
+            first: None,
+            second: None,
+        }
+    }
+
+    // How many there are.
+    pub fn count(self) -> usize
+        ensures { result ≡ length (few_list self) }
+    {
+        usize::from(self.first.is_some()) + usize::from(self.second.is_some())
+    }
+
+    // Number d of them.
+    pub fn get(self, d: usize) -> Option<Share>
+        requires { d < 2 }
+        ensures { option_to_list result ≡ take 1 (drop d (few_list self)) }
+    {
+        if d == 0 {
+            return self.first.or(self.second);
+        }
+        self.first.and(self.second)
+    }
+
+    // Those without place 0 where it is fixed.
+    #[tactic(auto, using(crate::proofs::InterpolateLaws::kept_append))]
+    fn kept(self, wall: bool) -> Few
+        ensures { few_list result ≡ kept_shares wall (few_list self) }
+    {
+        Few {
+            first: kept(self.first, wall),
+            second: kept(self.second, wall),
+        }
+    }
+}
+
+#[tactic(auto, unfolding(crate::specs::Interpolate::kept_shares))]
+fn kept(s: Option<Share>, wall: bool) -> Option<Share>
+    ensures { option_to_list result ≡ kept_shares wall (option_to_list s) }
+{
+    let s = s?;
+    if wall && s.place() == 0 {
+        return None;
+    }
+    Some(s)
 }
 
 // ---- structure
 
+// The first coarse value past place p.
+fn first_past(cs: &[usize], p: usize) -> Option<usize>
+    ensures { result ≡ position (λ x. nat_lt p x) cs.now }
+{
+    cs.iter().position(|x| *x > p)
+}
+
 // How many coarse values lie at or before place p.
-fn up_to(places: &[usize], from: usize, n: usize, p: usize) -> usize
-    requires { (from + n ≤ length places.now) × (from + n ≤ all_slots) }
-    ensures { (result ≡ up_to (places_in places.now from n) p) × (result ≤ n) }
+#[tactic(auto, using(crate::proofs::InterpolateLaws::up_to_most))]
+fn up_to(cs: &[usize], p: usize) -> usize
+    ensures value { result ≡ up_to cs.now p }
+    ensures most { result ≤ length cs.now }
 {
-    for m in 0..n {
-        if places[from + m] > p {
-            return m;
-        }
-    }
-    n
+    first_past(cs, p).unwrap_or(cs.len())
 }
 
-// One less, and zero for zero.
-fn less_one(h: usize) -> usize
-    ensures { result ≡ h - 1 }
+// Whether the last of the first h values is at p.
+#[tactic(auto, unfolding(crate::specs::Interpolate::meets))]
+fn meets(cs: &[usize], p: usize, h: usize) -> bool
+    requires { h ≤ length cs.now }
+    ensures { result ≡ meets_at cs.now p h }
 {
-    if h == 0 {
-        return 0;
-    }
-    h - 1
-}
-
-// Whether the last of the h values is at p.
-fn meets(places: &[usize], from: usize, n: usize, p: usize, h: usize) -> bool
-    requires n_in_bounds { (from + n ≤ length places.now) × (from + n ≤ all_slots) }
-    requires h_le_n { h ≤ n }
-    ensures { result ≡ meets_at (places_in places.now from n) p h }
-{
-    if h == 0 {
-        return false;
-    }
-    places[from + (h - 1)] == p
+    h > 0 && cs[h - 1] == p
 }
 
 // Before the first of n values or past the last.
+#[tactic(auto, unfolding(crate::specs::Interpolate::outside))]
 fn outside(n: usize, h: usize) -> bool
     ensures { result ≡ outside_of n h }
 {
     h == 0 || n <= h
 }
 
+#[tactic(auto, unfolding(crate::specs::Interpolate::rule_by))]
 fn rule_by(wall: bool, along: bool, n: usize, h: usize, met: bool) -> Rule
     ensures { result ≡ rule_by wall along n h met }
 {
-    let last = less_one(h);
+    let last = h.saturating_sub(1);
     if met {
         return Rule::Coincides(last);
     }
@@ -104,140 +167,85 @@ fn rule_by(wall: bool, along: bool, n: usize, h: usize, met: bool) -> Rule
 }
 
 // The rule of place p.
-pub fn rule_of(e: Edges, places: &[usize], from: usize, n: usize, along: bool, p: usize) -> Rule
-    requires { (from + n ≤ length places.now) × (from + n ≤ all_slots) }
-    ensures { result ≡ rule_of e (places_in places.now from n) along p }
+#[tactic(auto, unfolding(crate::specs::Interpolate::rule_of))]
+pub fn rule_of(e: Edges, cs: &[usize], along: bool, p: usize) -> Rule
+    ensures { result ≡ rule_of e cs.now along p }
 {
-    let h = up_to(places, from, n, p);
-    let met = meets(places, from, n, p, h);
-    rule_by(lattice::lattice::is_wall(e), along, n, h, met)
+    let h = up_to(cs, p);
+    let met = meets(cs, p, h);
+    rule_by(lattice::lattice::is_wall(e), along, cs.len(), h, met)
 }
 
 // The neighbour on each side where h of n values lie before the place, with its phase.
-fn low_side(e: Edges, n: usize, h: usize) -> Arrival
+#[tactic(auto, unfolding(crate::specs::Interpolate::low_side))]
+fn low_side(e: Edges, n: usize, h: usize) -> Option<Arrival>
     requires { 0 < n }
     ensures { result ≡ low_side e n h }
 {
     if h == 0 {
         match e {
-            Edges::Pml => Arrival::Beyond,
-            Edges::Bloch(p) => Arrival::To(n - 1, numbers::inv(p)),
+            Edges::Pml => None,
+            Edges::Bloch(p) => neighbours::to_place(n - 1, p.inv()),
         }
     } else {
-        Arrival::To(h - 1, numbers::one())
+        neighbours::to_place(h - 1, C64::one())
     }
 }
 
-fn high_side(e: Edges, n: usize, h: usize) -> Arrival
+#[tactic(auto, unfolding(crate::specs::Interpolate::high_side))]
+fn high_side(e: Edges, n: usize, h: usize) -> Option<Arrival>
     ensures { result ≡ high_side e n h }
 {
     if n <= h {
         match e {
-            Edges::Pml => Arrival::Beyond,
-            Edges::Bloch(p) => Arrival::To(0, p),
+            Edges::Pml => None,
+            Edges::Bloch(p) => neighbours::to_place(0, p),
         }
     } else {
-        Arrival::To(h, numbers::one())
+        neighbours::to_place(h, C64::one())
     }
 }
 
-pub fn no_spots() -> Spots
-    ensures { result ≡ spots_of [] }
+// The one that lies there.
+fn there(m: usize) -> Few
+    ensures { few_list result ≡ There m ∷ [] }
 {
-    Spots {
-        count: 0,
-        first: 0,
-        second: 0,
-    }
-}
-
-fn one_spot(m: usize) -> Spots
-    ensures { result ≡ spots_of (m ∷ []) }
-{
-    Spots {
-        count: 1,
-        first: m,
-        second: 0,
+    Few {
+        first: Some(Share::There(m)),
+        second: None,
     }
 }
 
 // Those of the two neighbours that are there.
-fn side_spots(low: Arrival, high: Arrival) -> Spots
-    ensures { result ≡ spots_of (side_places low ++ side_places high) }
+fn sides(low: Option<Arrival>, high: Option<Arrival>) -> Few
+    ensures { few_list result ≡ side_shares low high }
 {
-    match low {
-        Arrival::Beyond => match high {
-            Arrival::Beyond => no_spots(),
-            Arrival::To(m, _) => one_spot(m),
-        },
-        Arrival::To(a, _) => match high {
-            Arrival::Beyond => one_spot(a),
-            Arrival::To(b, _) => Spots {
-                count: 2,
-                first: a,
-                second: b,
-            },
-        },
+    Few {
+        first: low.map(|to| Share::Low(to)),
+        second: high.map(|to| Share::High(to)),
     }
 }
 
-fn rule_spots(e: Edges, n: usize, by: Rule) -> Spots
+// The coarse values that a rule takes.
+fn rule_shares(e: Edges, n: usize, by: Rule) -> Few
     requires { 0 < n }
-    ensures { result ≡ spots_of (rule_places e n by) }
+    ensures { few_list result ≡ rule_shares e n by }
 {
     match by {
-        Rule::Coincides(m) => one_spot(m),
-        Rule::Nearest(m) => one_spot(m),
-        Rule::Between(h) => side_spots(low_side(e, n, h), high_side(e, n, h)),
-        Rule::Dropped(h) => side_spots(low_side(e, n, h), high_side(e, n, h)),
-    }
-}
-
-// The places without place 0 where it is fixed.
-fn kept_spots(s: Spots, wall: bool) -> Spots
-    ensures { result ≡ spots_of (kept_places wall (spot_list s)) }
-{
-    if s.count == 0 {
-        return no_spots();
-    }
-    if s.count == 1 {
-        if wall && s.first == 0 {
-            return no_spots();
-        }
-        return one_spot(s.first);
-    }
-    if wall && s.first == 0 {
-        if wall && s.second == 0 {
-            return no_spots();
-        }
-        return one_spot(s.second);
-    }
-    if wall && s.second == 0 {
-        return one_spot(s.first);
-    }
-    Spots {
-        count: 2,
-        first: s.first,
-        second: s.second,
+        Rule::Coincides(m) => there(m),
+        Rule::Nearest(m) => there(m),
+        Rule::Between(h) => sides(low_side(e, n, h), high_side(e, n, h)),
+        Rule::Dropped(h) => sides(low_side(e, n, h), high_side(e, n, h)),
     }
 }
 
 // The coarse values that place p takes, without place 0 where it is fixed.
-pub fn taken(
-    e: Edges,
-    places: &[usize],
-    from: usize,
-    n: usize,
-    along: bool,
-    p: usize,
-    wall: bool,
-) -> Spots
-    requires n_in_bounds { (from + n ≤ length places.now) × (from + n ≤ all_slots) }
-    requires n_nonzero { 0 < n }
-    ensures { result ≡ spots_of (kept_places wall (taken_places e (places_in places.now from n) along p)) }
+#[tactic(auto, unfolding(crate::specs::Interpolate::shares_in))]
+pub fn taken(e: Edges, cs: &[usize], along: bool, p: usize, wall: bool) -> Few
+    requires { 0 < length cs.now }
+    ensures { few_list result ≡ kept_shares wall (shares_in e cs.now along p) }
 {
-    let by = rule_of(e, places, from, n, along, p);
-    kept_spots(rule_spots(e, n, by), wall)
+    rule_shares(e, cs.len(), rule_of(e, cs, along, p)).kept(wall)
 }
 
 // ---- numbers
@@ -264,198 +272,56 @@ fn coordinate(e: Edges, maps: &[f64], b: usize, p: usize) -> C64
 }
 
 // That of the low neighbour where h values lie before the place.
-fn low_coordinate(
-    e: Edges,
-    maps: &[f64],
-    b: usize,
-    places: &[usize],
-    from: usize,
-    n: usize,
-    period: usize,
-    h: usize,
-) -> C64
+#[tactic(auto, unfolding(crate::specs::Interpolate::low_coordinate, crate::specs::Interpolate::whole))]
+fn low_coordinate(e: Edges, maps: &[f64], b: usize, cs: &[usize], period: usize, h: usize) -> C64
     requires maps_len { (length maps.now ≡ 1548) × (b < 6) }
-    requires n_in_bounds { (from + n ≤ length places.now) × (from + n ≤ all_slots) }
-    requires n_nonzero { (0 < n) × (period < map_points) }
-    requires by_index { (m : ℕ) → m < n → get_or places.now (from + m) 0 < map_points }
-    requires h_le_n { h ≤ n }
-    ensures { result ≡ low_coordinate e (map_in maps.now b) (places_in places.now from n) period h }
+    requires cs_some { (0 < length cs.now) × (period < map_points) }
+    requires by_index { (m : ℕ) → m < length cs.now → get_or cs.now m 0 < map_points }
+    requires h_in_bounds { h ≤ length cs.now }
+    ensures { result ≡ low_coordinate e (map_in maps.now b) cs.now period h }
 {
     if h == 0 {
         return C64 {
-            re: places[from + (n - 1)] as f64 - period as f64,
+            re: cs[cs.len() - 1] as f64 - period as f64,
             im: 0.0,
         };
     }
-    coordinate(e, maps, b, places[from + (h - 1)])
+    coordinate(e, maps, b, cs[h - 1])
 }
 
 // That of the high one.
-fn high_coordinate(
-    e: Edges,
-    maps: &[f64],
-    b: usize,
-    places: &[usize],
-    from: usize,
-    n: usize,
-    period: usize,
-    h: usize,
-) -> C64
+#[tactic(auto, unfolding(crate::specs::Interpolate::high_coordinate))]
+fn high_coordinate(e: Edges, maps: &[f64], b: usize, cs: &[usize], period: usize, h: usize) -> C64
     requires maps_len { (length maps.now ≡ 1548) × (b < 6) }
-    requires n_in_bounds { (from + n ≤ length places.now) × (from + n ≤ all_slots) }
-    requires n_nonzero { (0 < n) × (period < map_points) }
-    requires by_index { (m : ℕ) → m < n → get_or places.now (from + m) 0 < map_points }
-    ensures { result ≡ high_coordinate e (map_in maps.now b) (places_in places.now from n) period h }
+    requires cs_some { (0 < length cs.now) × (period < map_points) }
+    requires by_index { (m : ℕ) → m < length cs.now → get_or cs.now m 0 < map_points }
+    ensures { result ≡ high_coordinate e (map_in maps.now b) cs.now period h }
 {
-    if n <= h {
-        return coordinate(e, maps, b, places[from] + period);
+    if cs.len() <= h {
+        return coordinate(e, maps, b, cs[0] + period);
     }
-    coordinate(e, maps, b, places[from + h])
+    coordinate(e, maps, b, cs[h])
 }
 
 // How far p lies from low to high.
+#[tactic(auto, unfolding(crate::specs::Interpolate::ratio))]
 fn ratio(p: C64, low: C64, high: C64) -> C64
     ensures { result ≡ ratio_of p low high }
 {
-    numbers::div(numbers::sub(p, low), numbers::sub(high, low))
+    (p - low) / (high - low)
 }
 
-fn ratio_at(
-    e: Edges,
-    maps: &[f64],
-    b: usize,
-    places: &[usize],
-    from: usize,
-    n: usize,
-    period: usize,
-    p: usize,
-    h: usize,
-) -> C64
+// How far place p lies from its low neighbour to its high one.
+#[tactic(auto, unfolding(crate::specs::Interpolate::ratio_at))]
+pub fn ratio_at(e: Edges, maps: &[f64], b: usize, cs: &[usize], period: usize, p: usize) -> C64
     requires maps_len { (length maps.now ≡ 1548) × (b < 6) }
-    requires n_in_bounds { (from + n ≤ length places.now) × (from + n ≤ all_slots) }
-    requires n_nonzero { (0 < n) × (period < map_points) }
-    requires by_index { (m : ℕ) → m < n → get_or places.now (from + m) 0 < map_points }
-    requires h_le_n { (h ≤ n) × (p < map_points) }
-    ensures { result ≡ ratio_at e (map_in maps.now b) (places_in places.now from n) period p h }
-{
-    let low = low_coordinate(e, maps, b, places, from, n, period, h);
-    let high = high_coordinate(e, maps, b, places, from, n, period, h);
-    ratio(coordinate(e, maps, b, p), low, high)
-}
-
-pub fn no_pulls() -> Pulls
-    ensures { result ≡ pulls_of [] }
-{
-    Pulls {
-        count: 0,
-        first: 0,
-        low: numbers::zero(),
-        second: 0,
-        high: numbers::zero(),
-    }
-}
-
-fn one_pull(m: usize, w: C64) -> Pulls
-    ensures { result ≡ pulls_of (record { column = m; number = w } ∷ []) }
-{
-    Pulls {
-        count: 1,
-        first: m,
-        low: w,
-        second: 0,
-        high: numbers::zero(),
-    }
-}
-
-// Those of the two neighbours that are there, by how far the place lies from the low one: each share times the neighbour's phase.
-fn two_sides(low: Arrival, high: Arrival, t: C64) -> Pulls
-    ensures { result ≡ pulls_of (two_sides low high t) }
-{
-    match low {
-        Arrival::Beyond => match high {
-            Arrival::Beyond => no_pulls(),
-            Arrival::To(m, phase) => one_pull(m, numbers::mul(t, phase)),
-        },
-        Arrival::To(a, behind) => match high {
-            Arrival::Beyond => one_pull(a, numbers::mul(numbers::one_minus(t), behind)),
-            Arrival::To(b, ahead) => Pulls {
-                count: 2,
-                first: a,
-                low: numbers::mul(numbers::one_minus(t), behind),
-                second: b,
-                high: numbers::mul(t, ahead),
-            },
-        },
-    }
-}
-
-fn rule_pulls(e: Edges, n: usize, t: C64, by: Rule) -> Pulls
-    requires { 0 < n }
-    ensures { result ≡ pulls_of (rule_terms e n t by) }
-{
-    match by {
-        Rule::Coincides(m) => one_pull(m, numbers::one()),
-        Rule::Nearest(m) => one_pull(m, numbers::one()),
-        Rule::Between(h) => two_sides(low_side(e, n, h), high_side(e, n, h), t),
-        Rule::Dropped(h) => two_sides(low_side(e, n, h), high_side(e, n, h), t),
-    }
-}
-
-// The terms without place 0 where it is fixed.
-fn kept_pulls(s: Pulls, wall: bool) -> Pulls
-    ensures { result ≡ pulls_of (kept_terms wall (pull_list s)) }
-{
-    let low = s.low;
-    let high = s.high;
-    if s.count == 0 {
-        return no_pulls();
-    }
-    if s.count == 1 {
-        if wall && s.first == 0 {
-            return no_pulls();
-        }
-        return one_pull(s.first, low);
-    }
-    if wall && s.first == 0 {
-        if wall && s.second == 0 {
-            return no_pulls();
-        }
-        return one_pull(s.second, high);
-    }
-    if wall && s.second == 0 {
-        return one_pull(s.first, low);
-    }
-    Pulls {
-        count: 2,
-        first: s.first,
-        low,
-        second: s.second,
-        high,
-    }
-}
-
-// The coarse values that place p takes with their weights, without place 0 where it is fixed.
-pub fn interpolate(
-    e: Edges,
-    maps: &[f64],
-    b: usize,
-    places: &[usize],
-    from: usize,
-    n: usize,
-    period: usize,
-    along: bool,
-    p: usize,
-    wall: bool,
-) -> Pulls
-    requires maps_len { (length maps.now ≡ 1548) × (b < 6) }
-    requires n_in_bounds { (from + n ≤ length places.now) × (from + n ≤ all_slots) }
-    requires n_nonzero { (0 < n) × (period < map_points) }
-    requires by_index { (m : ℕ) → m < n → get_or places.now (from + m) 0 < map_points }
+    requires cs_some { (0 < length cs.now) × (period < map_points) }
+    requires by_index { (m : ℕ) → m < length cs.now → get_or cs.now m 0 < map_points }
     requires p_lt_map_points { p < map_points }
-    ensures { result ≡ pulls_of (kept_terms wall (interpolated e (map_in maps.now b) (places_in places.now from n) period along p)) }
+    ensures { result ≡ ratio_at e (map_in maps.now b) cs.now period p (up_to cs.now p) }
 {
-    let by = rule_of(e, places, from, n, along, p);
-    let h = up_to(places, from, n, p);
-    let t = ratio_at(e, maps, b, places, from, n, period, p, h);
-    kept_pulls(rule_pulls(e, n, t, by), wall)
+    let h = up_to(cs, p);
+    let low = low_coordinate(e, maps, b, cs, period, h);
+    let high = high_coordinate(e, maps, b, cs, period, h);
+    ratio(coordinate(e, maps, b, p), low, high)
 }

@@ -1,7 +1,7 @@
 // The prolongation between two levels, into lent lists: starts and columns, from the lattice alone, and weights, from the permittivities.
 // `requires` of all of them: the lines of two neighbouring levels, and offsets far from the largest number.
 
-ghost use Rattle.std.specs.Prelude.{◌≡◌, ℕ, ◌+◌, ◌-◌, ◌*◌, ◌<◌, ◌≤◌, ◌^◌, length, set};
+ghost use Rattle.std.specs.Prelude.{◌≡◌, ℕ, ◌+◌, ◌-◌, ◌*◌, ◌<◌, ◌≤◌, ◌^◌, length, set, sum};
 ghost use Rattle.numbers.specs.Places.{set_number};
 ghost use Rattle.lattice.specs.Grid.{unknowns_of, Limits};
 ghost use Rattle.lattice.specs.Lattice.{full_lattice};
@@ -11,7 +11,7 @@ ghost use Rattle.weights.specs.Prolongation.{weight_columns, weight_numbers};
 ghost use Rattle.weights.specs.Product.{row_weights};
 ghost use Rattle.weights.specs.Tables.{Paired, RoomFor, CountsOf, counted_to, axis_count, component_count};
 
-use crate::rows::Span;
+use crate::rows::{Span, Weights};
 use crate::{rows, tables};
 use lattice::grid;
 use lattice::grid::Grid3d;
@@ -37,13 +37,10 @@ pub fn columns(
     ensures laid { Laid set columns.old k (rows_of (weight_columns (two_of (full_lattice l st.now) fine coarse)) (unknowns_of
         (fine_grid (two_of (full_lattice l st.now) fine coarse)))) columns.new (k + result) }
 {
-    let gf = tables::grid_of(l.grid, fine);
-    let gc = tables::grid_of(l.grid, coarse);
-    let fs = tables::value_places(fine);
-    let cs = tables::value_places(coarse);
-    let ns = tables::counts(l, st, gf, gc, &fs, &cs);
-    let ps = tables::places(l, st, gf, gc, &fs, &cs);
-    rows::all_columns(gf, gc, &ps, &ns, starts, s, columns, k) - k
+    let t = tables::slots_of(l, st, fine, coarse);
+    let gf = t.levels.fine;
+    let gc = t.levels.coarse;
+    rows::all_columns(gf, gc, &t.places, &t.counts, starts, s, columns, k) - k
 }
 
 // The weights of all rows from place k of the values on, by the permittivities of the fine level at place feps of eps and those of the coarse one at
@@ -68,25 +65,31 @@ pub fn weights(
     ensures value { result ≡ all_finite (rows_of (weight_numbers (two_of (full_lattice l st.now) fine coarse) (read_from eps.now feps)
         (read_from eps.now ceps)) (unknowns_of (fine_grid (two_of (full_lattice l st.now) fine coarse)))) }
 {
-    let gf = tables::grid_of(l.grid, fine);
-    let gc = tables::grid_of(l.grid, coarse);
-    let fs = tables::value_places(fine);
-    let cs = tables::value_places(coarse);
-    let ns = tables::counts(l, st, gf, gc, &fs, &cs);
-    let ps = tables::places(l, st, gf, gc, &fs, &cs);
-    let nn = tables::nodes(l, st, fine, coarse);
-    let ds = tables::reads(&nn, &ps);
-    let maps = tables::maps(l, st);
-    let es = tables::last_ends(coarse);
-    let xs = tables::pulls(l, st, gf, gc, &fs, &cs, &maps, &es);
-    let span = Span {
-        fine: gf,
-        coarse: gc,
-        feps,
-        ceps,
+    let t = tables::slots_of(l, st, fine, coarse);
+    let w = tables::weighed(l, st, fine, coarse, &t);
+    let list = Weights {
+        span: Span {
+            fine: t.levels.fine,
+            coarse: t.levels.coarse,
+            feps,
+            ceps,
+        },
+        places: &t.places,
+        nodes: &w.nodes,
+        counts: &t.counts,
+        pulls: &w.weights,
+        eps,
     };
-    let last = rows::all_numbers(span, &ps, &ds, &ns, &xs, eps, k, values);
+    let last = rows::all_numbers(&list, k, values);
     lists::finite_numbers(values, k, last - k)
+}
+
+// Counts added.
+fn total(ns: &[usize]) -> usize
+    requires { sum ns.now ≤ 128 }
+    ensures { result ≡ sum ns.now }
+{
+    ns.iter().sum()
 }
 
 // The counts of the n places of axis a for component c, added.
@@ -95,11 +98,8 @@ fn axis_count(ns: &[usize], c: usize, a: usize, n: usize) -> usize
     requires a_bound { (a < 3) × (n ≤ 64) }
     ensures { (result ≡ axis_count ns.now c a n) × (result ≤ 128) }
 {
-    let mut sum = 0;
-    for i in 0..n {
-        sum += ns[tables::slot(a, a == c, i)];
-    }
-    sum
+    let first = tables::slot(a, a == c, 0);
+    total(&ns[first..first + n])
 }
 
 // How many weights the rows of component c have: the product over the axes.
@@ -131,12 +131,9 @@ fn count_rows(l: Lattice, st: &[f64], fine: Three, coarse: Three) -> usize
     requires { Paired (full_lattice l st.now) fine coarse }
     ensures { result ≡ sum_to (row_weights (two_of (full_lattice l st.now) fine coarse)) (unknowns_of (fine_grid (two_of (full_lattice l st.now) fine coarse))) }
 {
-    let gf = tables::grid_of(l.grid, fine);
-    let gc = tables::grid_of(l.grid, coarse);
-    let fs = tables::value_places(fine);
-    let cs = tables::value_places(coarse);
-    let ns = tables::counts(l, st, gf, gc, &fs, &cs);
-    count_all(gf, &ns)
+    let t = tables::levels_of(l, st, fine, coarse);
+    let ns = tables::counts(l, st, t.fine, t.coarse, &t.fine_values, &t.coarse_values);
+    count_all(t.fine, &ns)
 }
 
 // How many weights the transfer has, before any is worked out.

@@ -2,11 +2,12 @@
 // `requires` of all of them: grids within the limits, an edge of the fine one, slots whose entries are places of the grids, and a place far from the
 // largest number.
 
-ghost use Rattle.std.specs.Prelude.{◌≡◌, [], ◌∷◌, ℕ, ◌+◌, ◌-◌, ◌*◌, ◌<◌, ◌≤◌, ◌^◌, length, get_or, set};
+ghost use Rattle.std.specs.Prelude.{◌≡◌, [], ◌∷◌, ℕ, ◌+◌, ◌-◌, ◌*◌, ◌<◌, ◌≤◌, ◌^◌, List, length, get_or, set};
 ghost use Rattle.numbers.specs.Places.{number_at, set_number};
 ghost use Rattle.lattice.specs.Grid.{n_of, unknowns_of, at_of, Limits, Inside};
 ghost use Rattle.numbers.specs.Lists.{Laid, laid, rows as rows_of, starts_of, read_from};
-ghost use Rattle.weights.specs.Tables.{slot_on, columns_in_z, columns_in_y, columns_in, weight_in, numbers_in_z, numbers_in_y, numbers_in, PlacesOf, NodesOf, RoomOf, SpanOf, columns_row, numbers_row, RowLaid, count_in, all_slots, entry_count, entry_doubles};
+ghost use Rattle.weights.specs.Calls.{Lays, MayLay};
+ghost use Rattle.weights.specs.Tables.{slot_on, pull_in, columns_in_z, columns_in_y, columns_in, weight_in, numbers_in_z, numbers_in_y, numbers_in, PlacesOf, NodesOf, RoomOf, SpanOf, columns_row, numbers_row, RowLaid, count_in, all_slots, entry_count, entry_doubles};
 
 use crate::tables;
 use lattice::grid;
@@ -30,12 +31,61 @@ pub struct Span {
     pub ceps: usize,
 }
 
+// All that the numbers of a row are worked out from: the entries' places, fine places and weights, how many each slot has, and the permittivities.
+#[derive(Clone, Copy)]
+pub struct Weights<'a> {
+    pub span: Span,
+    pub places: &'a [usize],
+    pub nodes: &'a [usize],
+    pub counts: &'a [usize],
+    pub pulls: &'a [f64],
+    pub eps: &'a [f64],
+}
+
 // The slot of a position on an axis.
 fn slot_on(p: Position, axis: usize, i: usize) -> usize
     requires { (axis < 3) × (i < 64) }
     ensures { result ≡ slot_on p axis i }
 {
     tables::slot(axis, axis == p.component, i)
+}
+
+// What a list can have laid in it: an item, put at a place.
+pub trait Listed {
+    type Item;
+
+    ghost put: { List Self → ℕ → Self.Item → List Self };
+}
+
+impl Listed for usize {
+    type Item = usize;
+
+    ghost put = { set };
+}
+
+impl Listed for f64 {
+    type Item = C64;
+
+    ghost put = { set_number };
+}
+
+// What `lay` lays for each of n entries, one behind another from place `from` on; the place behind them.
+fn lay_each<X: Listed, F: Fn(usize, usize, &mut [X]) -> usize>(
+    first: usize,
+    n: usize,
+    from: usize,
+    list: &mut [X],
+    lay: F,
+) -> usize
+    requires low { first + n < 2 ^ 32 }
+    requires callable { (f : ℕ → List X.Item) × (most : ℕ) × Lays X.put (F.post lay) f × ((e : ℕ) → length (f e) ≤ most) × MayLay (F.pre lay) first n from most }
+    ensures { (f : ℕ → List X.Item) (most : ℕ) → Lays X.put (F.post lay) f → ((e : ℕ) → length (f e) ≤ most) → Laid X.put list.old from (rows_of (λ d. f (first + d)) n) list.new result }
+{
+    let mut k = from;
+    for d in 0..n {
+        k = lay(first + d, k, list);
+    }
+    k
 }
 
 // ---- columns
@@ -59,17 +109,15 @@ fn columns_z(
 {
     let q = slot_on(p, 2, p.k);
     let count = ns[q];
-    let mut k = from;
-    for d in 0..count {
+    lay_each(2 * q, count, from, columns, |e, k, columns: &mut [usize]| {
         let c = Position {
             component: p.component,
             i,
             j,
-            k: ps[2 * q + d],
+            k: ps[e],
         };
-        k = lists::push(columns, k, grid::index(gc, c));
-    }
-    k
+        lists::push(columns, k, grid::index(gc, c))
+    })
 }
 
 fn columns_y(
@@ -89,12 +137,9 @@ fn columns_y(
     ensures { Laid set columns.old from (columns_in_y gc ps.now ns.now p i) columns.new result }
 {
     let q = slot_on(p, 1, p.j);
-    let n = ns[q];
-    let mut k = from;
-    for d in 0..n {
-        k = columns_z(gc, ps, ns, p, i, ps[2 * q + d], k, columns);
-    }
-    k
+    lay_each(2 * q, ns[q], from, columns, |e, k, columns: &mut [usize]| {
+        columns_z(gc, ps, ns, p, i, ps[e], k, columns)
+    })
 }
 
 // The columns of the row of position p, from place `from` on.
@@ -114,12 +159,9 @@ pub fn columns_at(
     ensures { Laid set columns.old from (columns_in gc ps.now ns.now p) columns.new result }
 {
     let q = slot_on(p, 0, p.i);
-    let n = ns[q];
-    let mut k = from;
-    for d in 0..n {
-        k = columns_y(gc, ps, ns, p, ps[2 * q + d], k, columns);
-    }
-    k
+    lay_each(2 * q, ns[q], from, columns, |e, k, columns: &mut [usize]| {
+        columns_y(gc, ps, ns, p, ps[e], k, columns)
+    })
 }
 
 // How many weights the row of position p has.
@@ -139,25 +181,25 @@ pub fn count_at(ns: &[usize], p: Position) -> usize
 // ---- numbers
 
 // Entry e of the lists.
-fn pull_at(ps: &[usize], ds: &[usize], xs: &[f64], e: usize) -> Pull
-    requires ps_len { (length ps.now ≡ entry_count) × (length ds.now ≡ entry_count) × (length xs.now ≡ entry_doubles) }
+fn pull_at(t: &Weights, e: usize) -> Pull
+    requires ps_len { (length t.now.places.now ≡ entry_count) × (length t.now.nodes.now ≡ entry_count) × (length t.now.pulls.now ≡ entry_doubles) }
     requires e_lt_entry_count { e < entry_count }
-    ensures { result ≡ record { place = get_or ps.now e 0; node = get_or ds.now e 0; weight = number_at xs.now e } }
+    ensures { result ≡ pull_in t.now.places.now t.now.nodes.now t.now.pulls.now e }
 {
     Pull {
-        place: ps[e],
-        node: ds[e],
-        weight: numbers::get(xs, e),
+        place: t.places[e],
+        node: t.nodes[e],
+        weight: numbers::get(t.pulls, e),
     }
 }
 
 // The weight of three entries: their product in axis order, times eps_c over eps_f.
-fn weight(s: Span, eps: &[f64], p: Position, x: Pull, y: Pull, z: Pull) -> C64
-    requires limits { (Limits s.fine) × (Limits s.coarse) }
-    requires inside { Inside s.coarse (record { component = p.component; i = x.place; j = y.place; k = z.place }) }
-    requires inside_2 { Inside s.fine (record { component = p.component; i = x.node; j = y.node; k = z.node }) }
-    requires room_of { RoomOf s eps.now }
-    ensures { result ≡ weight_in s.fine s.coarse (read_from eps.now s.feps) (read_from eps.now s.ceps) p x y z }
+fn weight(t: &Weights, p: Position, x: Pull, y: Pull, z: Pull) -> C64
+    requires limits { (Limits t.now.span.fine) × (Limits t.now.span.coarse) }
+    requires inside { Inside t.now.span.coarse (record { component = p.component; i = x.place; j = y.place; k = z.place }) }
+    requires inside_2 { Inside t.now.span.fine (record { component = p.component; i = x.node; j = y.node; k = z.node }) }
+    requires room_of { RoomOf t.now.span t.now.eps.now }
+    ensures { result ≡ weight_in t.now.span.fine t.now.span.coarse (read_from t.now.eps.now t.now.span.feps) (read_from t.now.eps.now t.now.span.ceps) p x y z }
 {
     let c = Position {
         component: p.component,
@@ -171,122 +213,77 @@ fn weight(s: Span, eps: &[f64], p: Position, x: Pull, y: Pull, z: Pull) -> C64
         j: y.node,
         k: z.node,
     };
-    let eps_c = numbers::get(eps, s.ceps + grid::index(s.coarse, c));
-    let eps_f = numbers::get(eps, s.feps + grid::index(s.fine, f));
-    let w = numbers::mul(numbers::mul(x.weight, y.weight), z.weight);
-    numbers::mul(w, numbers::div(eps_c, eps_f))
+    let s = t.span;
+    let eps_c = numbers::get(t.eps, s.ceps + grid::index(s.coarse, c));
+    let eps_f = numbers::get(t.eps, s.feps + grid::index(s.fine, f));
+    let w = x.weight * y.weight * z.weight;
+    w * (eps_c / eps_f)
 }
 
-fn numbers_z(
-    s: Span,
-    ps: &[usize],
-    ds: &[usize],
-    ns: &[usize],
-    xs: &[f64],
-    eps: &[f64],
-    p: Position,
-    x: Pull,
-    y: Pull,
-    from: usize,
-    values: &mut [f64],
-) -> usize
-    requires span_of { SpanOf s ps.now ds.now ns.now xs.now eps.now }
+fn numbers_z(t: &Weights, p: Position, x: Pull, y: Pull, from: usize, values: &mut [f64]) -> usize
+    requires span_of { SpanOf t.now.span t.now.places.now t.now.nodes.now t.now.counts.now t.now.pulls.now t.now.eps.now }
     requires component_bound { (p.component < 3) × (p.k < 64) }
-    requires place_lt_nx { (x.place < s.coarse.nx) × (y.place < s.coarse.ny) }
-    requires node_lt_nx { (x.node < s.fine.nx) × (y.node < s.fine.ny) }
+    requires place_lt_nx { (x.place < t.now.span.coarse.nx) × (y.place < t.now.span.coarse.ny) }
+    requires node_lt_nx { (x.node < t.now.span.fine.nx) × (y.node < t.now.span.fine.ny) }
     requires from_bound { from + 2 ≤ 2 ^ 40 }
-    ensures { Laid set_number values.old from (numbers_in_z s.fine s.coarse (read_from eps.now s.feps) (read_from
-        eps.now s.ceps) ps.now ds.now ns.now xs.now p x y) values.new result }
+    ensures { Laid set_number values.old from (numbers_in_z t.now.span.fine t.now.span.coarse (read_from t.now.eps.now t.now.span.feps) (read_from t.now.eps.now t.now.span.ceps) t.now.places.now t.now.nodes.now t.now.counts.now t.now.pulls.now p x y) values.new result }
 {
     let q = slot_on(p, 2, p.k);
-    let n = ns[q];
-    let mut k = from;
-    for d in 0..n {
-        let z = pull_at(ps, ds, xs, 2 * q + d);
-        k = lists::push_number(values, k, weight(s, eps, p, x, y, z));
-    }
-    k
+    lay_each(
+        2 * q,
+        t.counts[q],
+        from,
+        values,
+        |e, k, values: &mut [f64]| { lists::push(values, k, weight(t, p, x, y, pull_at(t, e))) },
+    )
 }
 
-fn numbers_y(
-    s: Span,
-    ps: &[usize],
-    ds: &[usize],
-    ns: &[usize],
-    xs: &[f64],
-    eps: &[f64],
-    p: Position,
-    x: Pull,
-    from: usize,
-    values: &mut [f64],
-) -> usize
-    requires span_of { SpanOf s ps.now ds.now ns.now xs.now eps.now }
+fn numbers_y(t: &Weights, p: Position, x: Pull, from: usize, values: &mut [f64]) -> usize
+    requires span_of { SpanOf t.now.span t.now.places.now t.now.nodes.now t.now.counts.now t.now.pulls.now t.now.eps.now }
     requires component_bound { (p.component < 3) × (p.k < 64) }
-    requires place_lt_nx { (x.place < s.coarse.nx) × (p.j < 64) }
-    requires node_lt_nx { x.node < s.fine.nx }
+    requires place_lt_nx { (x.place < t.now.span.coarse.nx) × (p.j < 64) }
+    requires node_lt_nx { x.node < t.now.span.fine.nx }
     requires from_bound { from + 4 ≤ 2 ^ 40 }
-    ensures { Laid set_number values.old from (numbers_in_y s.fine s.coarse (read_from eps.now s.feps) (read_from
-        eps.now s.ceps) ps.now ds.now ns.now xs.now p x) values.new result }
+    ensures { Laid set_number values.old from (numbers_in_y t.now.span.fine t.now.span.coarse (read_from t.now.eps.now t.now.span.feps) (read_from t.now.eps.now t.now.span.ceps) t.now.places.now t.now.nodes.now t.now.counts.now t.now.pulls.now p x) values.new result }
 {
     let q = slot_on(p, 1, p.j);
-    let n = ns[q];
-    let mut k = from;
-    for d in 0..n {
-        let y = pull_at(ps, ds, xs, 2 * q + d);
-        k = numbers_z(s, ps, ds, ns, xs, eps, p, x, y, k, values);
-    }
-    k
+    lay_each(
+        2 * q,
+        t.counts[q],
+        from,
+        values,
+        |e, k, values: &mut [f64]| { numbers_z(t, p, x, pull_at(t, e), k, values) },
+    )
 }
 
 // The weights of the row of position p, from place `from` on.
-pub fn numbers_at(
-    s: Span,
-    ps: &[usize],
-    ds: &[usize],
-    ns: &[usize],
-    xs: &[f64],
-    eps: &[f64],
-    p: Position,
-    from: usize,
-    values: &mut [f64],
-) -> usize
-    requires span_of { SpanOf s ps.now ds.now ns.now xs.now eps.now }
+pub fn numbers_at(t: &Weights, p: Position, from: usize, values: &mut [f64]) -> usize
+    requires span_of { SpanOf t.now.span t.now.places.now t.now.nodes.now t.now.counts.now t.now.pulls.now t.now.eps.now }
     requires component_bound { (p.component < 3) × (p.k < 64) }
     requires i_bound { (p.i < 64) × (p.j < 64) }
     requires from_bound { from + 8 ≤ 2 ^ 40 }
-    ensures { Laid set_number values.old from (numbers_in s.fine s.coarse (read_from eps.now s.feps) (read_from eps.now
-        s.ceps) ps.now ds.now ns.now xs.now p) values.new result }
+    ensures { Laid set_number values.old from (numbers_in t.now.span.fine t.now.span.coarse (read_from t.now.eps.now t.now.span.feps) (read_from t.now.eps.now t.now.span.ceps) t.now.places.now t.now.nodes.now t.now.counts.now t.now.pulls.now p) values.new result }
 {
     let q = slot_on(p, 0, p.i);
-    let n = ns[q];
-    let mut k = from;
-    for d in 0..n {
-        let x = pull_at(ps, ds, xs, 2 * q + d);
-        k = numbers_y(s, ps, ds, ns, xs, eps, p, x, k, values);
-    }
-    k
+    lay_each(
+        2 * q,
+        t.counts[q],
+        from,
+        values,
+        |e, k, values: &mut [f64]| { numbers_y(t, p, pull_at(t, e), k, values) },
+    )
 }
 
 // ---- one row
 
 // The weights of the row of fine edge r, laid from place `at` on; whether all are finite.
-pub fn weights_row(
-    s: Span,
-    ps: &[usize],
-    ds: &[usize],
-    ns: &[usize],
-    xs: &[f64],
-    eps: &[f64],
-    values: &mut [f64],
-    at: usize,
-    r: usize,
-) -> bool
-    requires span_of { SpanOf s ps.now ds.now ns.now xs.now eps.now }
-    requires r_bound { r < unknowns_of s.fine }
-    requires at_bound { (at ≤ 2 ^ 32) × (2 * (at + count_in ns.now (at_of s.fine r)) ≤ length values.old) }
-    ensures { RowLaid s ps.now ds.now ns.now xs.now eps.now values.old at r result values.new }
+pub fn weights_row(t: &Weights, values: &mut [f64], at: usize, r: usize) -> bool
+    requires span_of { SpanOf t.now.span t.now.places.now t.now.nodes.now t.now.counts.now t.now.pulls.now t.now.eps.now }
+    requires r_bound { r < unknowns_of t.now.span.fine }
+    requires at_bound { (at ≤ 2 ^ 32) × (2 * (at + count_in t.now.counts.now (at_of t.now.span.fine r)) ≤ length values.old) }
+    ensures { RowLaid t.now.span t.now.places.now t.now.nodes.now t.now.counts.now t.now.pulls.now t.now.eps.now values.old at r result values.new }
 {
-    let last = numbers_at(s, ps, ds, ns, xs, eps, grid::at(s.fine, r), at, values);
+    let last = numbers_at(t, grid::at(t.span.fine, r), at, values);
     lists::finite_numbers(values, at, last - at)
 }
 
@@ -320,26 +317,16 @@ pub fn all_columns(
 }
 
 // The weights of all rows behind one another from place k on; the place behind them.
-pub fn all_numbers(
-    s: Span,
-    ps: &[usize],
-    ds: &[usize],
-    ns: &[usize],
-    xs: &[f64],
-    eps: &[f64],
-    from: usize,
-    values: &mut [f64],
-) -> usize
-    requires span_of { SpanOf s ps.now ds.now ns.now xs.now eps.now }
+pub fn all_numbers(t: &Weights, from: usize, values: &mut [f64]) -> usize
+    requires span_of { SpanOf t.now.span t.now.places.now t.now.nodes.now t.now.counts.now t.now.pulls.now t.now.eps.now }
     requires from_bound { from ≤ 2 ^ 32 }
-    ensures { Laid set_number values.old from (rows_of (numbers_row s.fine s.coarse (read_from eps.now s.feps)
-        (read_from eps.now s.ceps) ps.now ds.now ns.now xs.now) (unknowns_of s.fine)) values.new
+    ensures { Laid set_number values.old from (rows_of (numbers_row t.now.span.fine t.now.span.coarse (read_from t.now.eps.now t.now.span.feps) (read_from t.now.eps.now t.now.span.ceps) t.now.places.now t.now.nodes.now t.now.counts.now t.now.pulls.now) (unknowns_of t.now.span.fine)) values.new
         result }
 {
-    let n = grid::unknowns(s.fine);
+    let n = grid::unknowns(t.span.fine);
     let mut k = from;
     for r in 0..n {
-        k = numbers_at(s, ps, ds, ns, xs, eps, grid::at(s.fine, r), k, values);
+        k = numbers_at(t, grid::at(t.span.fine, r), k, values);
     }
     k
 }

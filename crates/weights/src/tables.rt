@@ -1,6 +1,7 @@
 // The weights of the axes in lists, worked out once for each transfer: a slot for each axis, role and fine place, with at most two entries.
 
-ghost use Rattle.std.specs.Prelude.{◌≡◌, ℕ, ◌+◌, ◌-◌, ◌*◌, ◌/◌, ◌%◌, ◌<◌, ◌≤◌, List, length, get_or, set, ltb, cond, [], ◌∷◌};
+ghost use Rattle.std.specs.Prelude.{◌≡◌, ℕ, ◌+◌, ◌-◌, ◌*◌, ◌/◌, ◌%◌, ◌<◌, ◌≤◌, List, length, get_or, set, ltb, cond, map, option_to_list};
+ghost use Rattle.weights.specs.Interpolate.{share_place, few_list};
 ghost use Rattle.numbers.specs.Complex.{zero_number};
 ghost use Rattle.numbers.specs.Places.{number_at, set_number};
 ghost use Rattle.lattice.specs.Grid.{Limits, n_of};
@@ -8,17 +9,18 @@ ghost use Rattle.lattice.specs.Lattice.{full_lattice};
 ghost use Rattle.numbers.specs.Lists.{tabulate, laid, laid_numbers, Numbers};
 ghost use Rattle.lattice.specs.Line.{ends_of, place_of, Held};
 ghost use Rattle.weights.specs.TwoLevels.{grid_with, fine_grid, coarse_grid, two_of};
-ghost use Rattle.weights.specs.Tables.{slot_of, slot_axis, slot_along, slot_place, slot_wall, lines_in, value_entry, end_no, node_no, map_no, HeldThree, Paired, ValuesOf, EndsOf, spots_of, pulls_of, slot_taken, slot_pulled, count_from, place_from, node_from, pull_from, all_slots, entry_count, node_count};
+ghost use Rattle.weights.specs.Tables.{slot_of, slot_axis, slot_along, slot_place, slot_wall, lines_in, value_entry, end_no, node_no, map_no, HeldThree, Paired, ValuesOf, EndsOf, slot_block, slot_shares, slot_ratio, entry_share, count_from, place_from, node_from, pull_from, all_slots, entry_count, node_count, Worked, Slotted, Pulled};
 ghost use Rattle.lattice.specs.Stretched.{map_points};
 
 use crate::interpolate;
-use crate::interpolate::{Pulls, Spots};
+use crate::interpolate::{Few, Share};
 use lattice::grid::Grid3d;
 use lattice::lattice::Lattice;
 use lattice::levels::Three;
 use lattice::line::Line;
 use lattice::{grid, line, stretched};
 use numbers::C64;
+use std::array;
 
 // Slots: an axis, a role and a place each.
 pub const SLOTS: usize = 384;
@@ -28,6 +30,30 @@ pub const ENTRIES: usize = 768;
 pub const ENTRY_DOUBLES: usize = 1536;
 // 65 nodes for each axis.
 pub const NODES: usize = 195;
+
+// The grids of two levels, and the places of their values, by slots.
+#[derive(Drop)]
+pub struct Levels {
+    pub fine: Grid3d,
+    pub coarse: Grid3d,
+    pub fine_values: [usize; SLOTS],
+    pub coarse_values: [usize; SLOTS],
+}
+
+// What the slots of two levels take, without numbers: how many entries each has, and the coarse place of each entry.
+#[derive(Drop)]
+pub struct Slots {
+    pub levels: Levels,
+    pub counts: [usize; SLOTS],
+    pub places: [usize; ENTRIES],
+}
+
+// The fine place and the weight of each entry.
+#[derive(Drop)]
+pub struct Entries {
+    pub nodes: [usize; ENTRIES],
+    pub weights: [f64; ENTRY_DOUBLES],
+}
 
 // The grid of a level, by its lines.
 pub fn grid_of(g: Grid3d, s: Three) -> Grid3d
@@ -44,14 +70,13 @@ pub fn grid_of(g: Grid3d, s: Three) -> Grid3d
 }
 
 // The slot of an axis, a role and a place.
+#[tactic(auto, unfolding(crate::specs::Tables::slot_of))]
 pub fn slot(axis: usize, along: bool, i: usize) -> usize
     requires { (axis < 3) × (i < 64) }
     ensures { result ≡ slot_of axis along i }
 {
-    if along {
-        return 128 * axis + 64 + i;
-    }
-    128 * axis + 0 + i
+    let role = if along { 64 } else { 0 };
+    128 * axis + role + i
 }
 
 // Whether slot q is of a component along its axis.
@@ -94,11 +119,7 @@ pub fn value_places(s: Three) -> [usize; SLOTS]
     requires { HeldThree s }
     ensures { result ≡ tabulate (value_entry (lines_in s)) all_slots 0 }
 {
-    let mut out = [0usize; SLOTS];
-    for q in 0..SLOTS {
-        out[q] = value_place(s, q);
-    }
-    out
+    array::from_fn(|q| value_place(s, q))
 }
 
 // The last ends of a level's lines.
@@ -106,14 +127,11 @@ pub fn last_ends(s: Three) -> [usize; 3]
     requires { HeldThree s }
     ensures { result ≡ tabulate (end_no (lines_in s)) 3 0 }
 {
-    let mut out = [0usize; 3];
-    let x = s.x;
-    let y = s.y;
-    let z = s.z;
-    out[0] = x.ends[x.cells];
-    out[1] = y.ends[y.cells];
-    out[2] = z.ends[z.cells];
-    out
+    [
+        s.x.ends[s.x.cells],
+        s.y.ends[s.y.cells],
+        s.z.ends[s.z.cells],
+    ]
 }
 
 // The nodes of one axis, laid over a list from place 65 a on.
@@ -121,9 +139,7 @@ fn lay_nodes(nodes: [usize; 65], a: usize, out: &mut [usize])
     requires { (a < 3) × (length out.old ≡ node_count) }
     ensures { out.new ≡ laid out.old (65 * a) nodes }
 {
-    for m in 0..65 {
-        out[65 * a + m] = nodes[m];
-    }
+    out[65 * a..65 * a + 65].copy_from_slice(&nodes);
 }
 
 // For each node of the coarse level the number of the same node on the fine one, 65 for each axis.
@@ -143,8 +159,8 @@ fn lay_map(x: [C64; 129], b: usize, out: &mut [f64])
     requires { (b < 6) × (length out.old ≡ 1548) }
     ensures { out.new ≡ laid_numbers out.old (map_points * b) x }
 {
-    for p in 0..129 {
-        numbers::put(out, 129 * b + p, x[p]);
+    for (p, v) in x.iter().enumerate() {
+        numbers::put(out, 129 * b + p, *v);
     }
 }
 
@@ -171,8 +187,18 @@ fn slot_wall(l: Lattice, st: &[f64], q: usize) -> bool
     !slot_along(q) && lattice::lattice::is_wall(lattice::lattice::edges_on(l, st, q / 128))
 }
 
-// What slot q takes.
-fn slot_spots(
+// The coarse values' places of a slot's axis and role.
+fn block(gc: Grid3d, cs: &[usize], q: usize) -> &[usize]
+    requires limits { Limits gc }
+    requires cs_len { (length cs.now ≡ all_slots) × (q < all_slots) }
+    ensures { result.now ≡ slot_block gc cs.now q }
+{
+    let first = q - q % 64;
+    &cs[first..first + grid::n(gc, q / 128)]
+}
+
+// What slot q takes: nothing past the fine line's values, nor where it is fixed.
+fn slot_taken(
     l: Lattice,
     st: &[f64],
     gf: Grid3d,
@@ -180,65 +206,81 @@ fn slot_spots(
     fs: &[usize],
     cs: &[usize],
     q: usize,
-) -> Spots
+) -> Few
     requires limits { Limits gc }
     requires values_of { ValuesOf fs.now cs.now }
     requires q_lt_all_slots { q < all_slots }
-    ensures { result ≡ spots_of (slot_taken (full_lattice l st.now) gf gc fs.now cs.now q) }
+    ensures { few_list result ≡ slot_shares (full_lattice l st.now) gf gc fs.now cs.now q }
 {
     let axis = q / 128;
     let i = q % 64;
     if i >= grid::n(gf, axis) {
-        return interpolate::no_spots();
+        return Few::none();
     }
     let wall = slot_wall(l, st, q);
     if wall && i == 0 {
-        return interpolate::no_spots();
+        return Few::none();
     }
     let e = lattice::lattice::edges_on(l, st, axis);
-    interpolate::taken(e, cs, q - i, grid::n(gc, axis), slot_along(q), fs[q], wall)
+    interpolate::taken(e, block(gc, cs, q), slot_along(q), fs[q], wall)
 }
 
-// The same with the weights.
-fn slot_pulls(
+// How far the place of slot q lies from its low neighbour to its high one.
+fn slot_ratio(
     l: Lattice,
     st: &[f64],
-    gf: Grid3d,
     gc: Grid3d,
     fs: &[usize],
     cs: &[usize],
     xs: &[f64],
     es: &[usize],
     q: usize,
-) -> Pulls
+) -> C64
     requires limits { Limits gc }
     requires values_of { ValuesOf fs.now cs.now }
     requires xs_len { (length xs.now ≡ 1548) × EndsOf es.now }
     requires q_lt_all_slots { q < all_slots }
-    ensures { result ≡ pulls_of (slot_pulled (full_lattice l st.now) gf gc fs.now cs.now xs.now es.now q) }
+    ensures { result ≡ slot_ratio (full_lattice l st.now) gc fs.now cs.now xs.now es.now q }
 {
-    let axis = q / 128;
-    let i = q % 64;
-    if i >= grid::n(gf, axis) {
-        return interpolate::no_pulls();
-    }
-    let wall = slot_wall(l, st, q);
-    if wall && i == 0 {
-        return interpolate::no_pulls();
-    }
-    let e = lattice::lattice::edges_on(l, st, axis);
-    interpolate::interpolate(
-        e,
-        xs,
-        q / 64,
-        cs,
-        q - i,
-        grid::n(gc, axis),
-        es[axis],
-        slot_along(q),
-        fs[q],
-        wall,
-    )
+    let e = lattice::lattice::edges_on(l, st, q / 128);
+    interpolate::ratio_at(e, xs, q / 64, block(gc, cs, q), es[q / 128], fs[q])
+}
+
+// Entry e, if its slot has it.
+#[tactic(auto, unfolding(crate::specs::Tables::entry_share))]
+fn entry(
+    l: Lattice,
+    st: &[f64],
+    gf: Grid3d,
+    gc: Grid3d,
+    fs: &[usize],
+    cs: &[usize],
+    e: usize,
+) -> Option<Share>
+    requires limits { Limits gc }
+    requires values_of { ValuesOf fs.now cs.now }
+    requires e_lt_entry_count { e < entry_count }
+    ensures { option_to_list result ≡ entry_share (full_lattice l st.now) gf gc fs.now cs.now e }
+{
+    slot_taken(l, st, gf, gc, fs, cs, e / 2).get(e % 2)
+}
+
+// How many entries slot q has.
+fn count(
+    l: Lattice,
+    st: &[f64],
+    gf: Grid3d,
+    gc: Grid3d,
+    fs: &[usize],
+    cs: &[usize],
+    q: usize,
+) -> usize
+    requires limits { Limits gc }
+    requires values_of { ValuesOf fs.now cs.now }
+    requires q_lt_all_slots { q < all_slots }
+    ensures { result ≡ count_from (full_lattice l st.now) gf gc fs.now cs.now q }
+{
+    slot_taken(l, st, gf, gc, fs, cs, q).count()
 }
 
 // How many entries each slot has.
@@ -254,24 +296,31 @@ pub fn counts(
     requires values_of { ValuesOf fs.now cs.now }
     ensures { result ≡ tabulate (count_from (full_lattice l st.now) gf gc fs.now cs.now) all_slots 0 }
 {
-    let mut out = [0usize; SLOTS];
-    for q in 0..SLOTS {
-        out[q] = slot_spots(l, st, gf, gc, fs, cs, q).count;
+    array::from_fn(|q| count(l, st, gf, gc, fs, cs, q))
+}
+
+// The coarse place of entry e.
+fn place(
+    l: Lattice,
+    st: &[f64],
+    gf: Grid3d,
+    gc: Grid3d,
+    fs: &[usize],
+    cs: &[usize],
+    e: usize,
+) -> usize
+    requires limits { Limits gc }
+    requires values_of { ValuesOf fs.now cs.now }
+    requires e_lt_entry_count { e < entry_count }
+    ensures { result ≡ place_from (full_lattice l st.now) gf gc fs.now cs.now e }
+{
+    match entry(l, st, gf, gc, fs, cs, e) {
+        None => 0,
+        Some(s) => s.place(),
     }
-    out
 }
 
 // The coarse place of each entry.
-fn spot_no(s: Spots, d: usize) -> usize
-    requires { d < 2 }
-    ensures { result ≡ get_or (s.first ∷ (s.second ∷ [])) d 0 }
-{
-    if d == 0 {
-        return s.first;
-    }
-    s.second
-}
-
 pub fn places(
     l: Lattice,
     st: &[f64],
@@ -284,11 +333,7 @@ pub fn places(
     requires values_of { ValuesOf fs.now cs.now }
     ensures { result ≡ tabulate (place_from (full_lattice l st.now) gf gc fs.now cs.now) entry_count 0 }
 {
-    let mut out = [0usize; ENTRIES];
-    for e in 0..ENTRIES {
-        out[e] = spot_no(slot_spots(l, st, gf, gc, fs, cs, e / 2), e % 2);
-    }
-    out
+    array::from_fn(|e| place(l, st, gf, gc, fs, cs, e))
 }
 
 // The fine place where the permittivity of each entry is read.
@@ -310,24 +355,34 @@ pub fn reads(nn: &[usize], ps: &[usize]) -> [usize; ENTRIES]
     requires by_index { (e : ℕ) → e < entry_count → get_or ps.now e 0 < 65 }
     ensures { result ≡ tabulate (node_from nn.now ps.now) entry_count 0 }
 {
-    let mut out = [0usize; ENTRIES];
-    for e in 0..ENTRIES {
-        out[e] = read_place(nn, ps, e);
+    array::from_fn(|e| read_place(nn, ps, e))
+}
+
+// The weight of entry e.
+fn pull(
+    l: Lattice,
+    st: &[f64],
+    gf: Grid3d,
+    gc: Grid3d,
+    fs: &[usize],
+    cs: &[usize],
+    xs: &[f64],
+    es: &[usize],
+    e: usize,
+) -> C64
+    requires limits { Limits gc }
+    requires values_of { ValuesOf fs.now cs.now }
+    requires xs_len { (length xs.now ≡ 1548) × EndsOf es.now }
+    requires e_lt_entry_count { e < entry_count }
+    ensures { result ≡ pull_from (full_lattice l st.now) gf gc fs.now cs.now xs.now es.now e }
+{
+    match entry(l, st, gf, gc, fs, cs, e) {
+        None => C64::zero(),
+        Some(s) => s.weight(slot_ratio(l, st, gc, fs, cs, xs, es, e / 2)),
     }
-    out
 }
 
 // The weight of each entry.
-fn pull_no(s: Pulls, d: usize) -> C64
-    requires { d < 2 }
-    ensures { result ≡ get_or (s.low ∷ (s.high ∷ [])) d zero_number }
-{
-    if d == 0 {
-        return s.low;
-    }
-    s.high
-}
-
 pub fn pulls(
     l: Lattice,
     st: &[f64],
@@ -344,9 +399,62 @@ pub fn pulls(
     ensures { Numbers (pull_from (full_lattice l st.now) gf gc fs.now cs.now xs.now es.now) entry_count result }
 {
     let mut out = [0.0; ENTRY_DOUBLES];
+    // An index: a number is two doubles, and an array made by place would work each number out twice.
     for e in 0..ENTRIES {
-        let s = slot_pulls(l, st, gf, gc, fs, cs, xs, es, e / 2);
-        numbers::put(&mut out, e, pull_no(s, e % 2));
+        numbers::put(&mut out, e, pull(l, st, gf, gc, fs, cs, xs, es, e));
     }
     out
+}
+
+// ---- all of it. `requires`: the lines of two neighbouring levels.
+
+pub fn levels_of(l: Lattice, st: &[f64], fine: Three, coarse: Three) -> Levels
+    requires { Paired (full_lattice l st.now) fine coarse }
+    ensures { Worked (full_lattice l st.now) fine coarse result.fine result.coarse result.fine_values result.coarse_values }
+{
+    Levels {
+        fine: grid_of(l.grid, fine),
+        coarse: grid_of(l.grid, coarse),
+        fine_values: value_places(fine),
+        coarse_values: value_places(coarse),
+    }
+}
+
+pub fn slots_of(l: Lattice, st: &[f64], fine: Three, coarse: Three) -> Slots
+    requires { Paired (full_lattice l st.now) fine coarse }
+    ensures levels { Worked (full_lattice l st.now) fine coarse result.levels.fine result.levels.coarse result.levels.fine_values result.levels.coarse_values }
+    ensures slots { Slotted (full_lattice l st.now) fine coarse result.levels.fine result.levels.coarse result.places result.counts }
+{
+    let t = levels_of(l, st, fine, coarse);
+    let ns = counts(l, st, t.fine, t.coarse, &t.fine_values, &t.coarse_values);
+    let ps = places(l, st, t.fine, t.coarse, &t.fine_values, &t.coarse_values);
+    Slots {
+        levels: t,
+        counts: ns,
+        places: ps,
+    }
+}
+
+pub fn weighed(l: Lattice, st: &[f64], fine: Three, coarse: Three, s: &Slots) -> Entries
+    requires levels { Worked (full_lattice l st.now) fine coarse s.now.levels.fine s.now.levels.coarse s.now.levels.fine_values s.now.levels.coarse_values }
+    requires slots { Slotted (full_lattice l st.now) fine coarse s.now.levels.fine s.now.levels.coarse s.now.places s.now.counts }
+    ensures { Pulled (full_lattice l st.now) fine coarse s.now.levels.fine s.now.levels.coarse s.now.places s.now.counts result.nodes result.weights }
+{
+    let t = &s.levels;
+    let nn = nodes(l, st, fine, coarse);
+    let xs = maps(l, st);
+    let es = last_ends(coarse);
+    Entries {
+        nodes: reads(&nn, &s.places),
+        weights: pulls(
+            l,
+            st,
+            t.fine,
+            t.coarse,
+            &t.fine_values,
+            &t.coarse_values,
+            &xs,
+            &es,
+        ),
+    }
 }

@@ -13,11 +13,10 @@ use Rattle.numbers.specs.Lists.{tabulate, laid}
 use Rattle.numbers.proofs.ListLaws.{laid_at}
 use Rattle.numbers.proofs.TabulateLaws.{is_tabulate, length_tabulate}
 use Rattle.lattice.specs.Lattice.{FullLattice}
-use Rattle.store.specs.Handed.{weight_terms, operator_row, numbers_handed, columns_handed, weight_row_of, operator_row_of, CellsOf}
+use Rattle.std.specs.Prelude.{Some, None}
+use Rattle.store.specs.Handed.{Span, weight_terms, operator_row, numbers_handed, columns_handed, weight_row_of, operator_row_of, CellsOf}
 use Rattle.store.specs.Needed.{cells_on, cells_of}
 use Rattle.store.specs.declared.handed.Cells.{Cells}
-use Rattle.store.specs.declared.handed.Span.{Span}
-use Rattle.store.specs.declared.handed.Span.TheVariants.{At, Nowhere}
 use Rattle.store.proofs.HandedLaws.{weight_handed, operator_handed, turned_fits, forward_fits, operator_fits}
 use Rattle.store.proofs.NeededLaws.{cells_own}
 use Rattle.yonaduvi.specs.Exports.{cells_words, count_at, cells_from, spanned, Within}
@@ -28,7 +27,7 @@ module _ (c : Cells) (b : Bool) (ss : List ℕ) (room : ℕ) (ts : List ℕ) (tr
   pub weights_within : 2 * room < 2 ^ 64 → 2 * troom < 2 ^ 64 → Within 2 s
   weights_within h k = record { held = λ i j d. go b refl i j (sym e ∙ d) }
     where
-      go : (a : Bool) → b ≡ a → (i j : ℕ) → weight_terms c b ss room ts troom L r ≡ At i j → (i ≤ j) × (2 * j < 2 ^ 64)
+      go : (a : Bool) → b ≡ a → (i j : ℕ) → weight_terms c b ss room ts troom L r ≡ Some (i, j) → (i ≤ j) × (2 * j < 2 ^ 64)
       go true f i j d = let w = turned_fits c b ss room ts troom L r f d in (w.0, omega (arith, w.1))
       go false f i j d = let w = forward_fits c b ss room ts troom L r f d in (w.0, omega (arith, w.1))
 
@@ -46,19 +45,19 @@ two_at_lem out a b h = (laid_at out 0 (a ∷ (b ∷ [])) 0 (omega arith) h, laid
 
 module _ (out : List ℕ) (room : 2 ≤ length out) where
   numbers_there : (s : Span) (forward xs : List Float) → part_there (laid out 0 (spanned 2 s)) xs ≡ numbers_handed forward xs s
-  numbers_there (At i j) forward xs =
+  numbers_there (Some (i, j)) forward xs =
       let w = two_at_lem out (2 * i) (2 * (j - i)) room in
       let e : 2 * (j - i) ≡ 2 * j - 2 * i = omega arith in
       λ k. take ((w.1 ∙ e) k) (drop (w.0 k) xs)
-  numbers_there Nowhere forward xs = let w = two_at_lem out 0 0 room in λ k. take (w.1 k) (drop (w.0 k) xs)
+  numbers_there None forward xs = let w = two_at_lem out 0 0 room in λ k. take (w.1 k) (drop (w.0 k) xs)
 
   columns_there : (s : Span) (cs : List ℕ) → part_there (laid out 0 (spanned 1 s)) cs ≡ columns_handed cs s
-  columns_there (At i j) cs =
+  columns_there (Some (i, j)) cs =
       let w = two_at_lem out (1 * i) (1 * (j - i)) room in
       let e : 1 * (j - i) ≡ j - i = omega arith in
       let d : 1 * i ≡ i = omega arith in
       λ k. take ((w.1 ∙ e) k) (drop ((w.0 ∙ d) k) cs)
-  columns_there Nowhere cs = let w = two_at_lem out 0 0 room in λ k. take (w.1 k) (drop (w.0 k) cs)
+  columns_there None cs = let w = two_at_lem out 0 0 room in λ k. take (w.1 k) (drop (w.0 k) cs)
 
   -- `yonaduvi_weight_row`: of the turned values or of the forward ones
   pub weight_row_there : (c : Cells) (b : Bool) (ss : List ℕ) (xs : List Float) (ts : List ℕ) (ys : List Float) (L r : ℕ)

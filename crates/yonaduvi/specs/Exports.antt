@@ -1,7 +1,7 @@
 -- What the calls for C and Rust are handed, and what they leave in the lists that they are lent, in terms of the store's definitions
 -- (docs/SPECIFICATION.md, 11).
 -- Assumes nothing.
-use Rattle.std.specs.Prelude.{ℕ, zero, suc, ◌+◌, ◌-◌, ◌*◌, ◌<◌, ◌≤◌, ◌^◌, ◌≡◌, Bool, false, not, cond, List, [], ◌∷◌, eqb, ltb, length, get_or, replicate, Float}
+use Rattle.std.specs.Prelude.{ℕ, ◌+◌, ◌-◌, ◌*◌, ◌<◌, ◌≤◌, ◌^◌, ◌≡◌, Bool, false, not, cond, List, [], ◌∷◌, eqb, ltb, length, get_or, replicate, Float, Some, None}
 use Rattle.std.specs.Float.{nan}
 use Rattle.std.specs.Float.Ieee as Ieee
 use Rattle.numbers.specs.Complex.{zero_f, one_f}
@@ -14,13 +14,11 @@ use Rattle.store.specs.Store.{Store}
 use Rattle.store.specs.Setup.{Input, Result, input_of, full_of, transfers_of}
 use Rattle.store.specs.FillSteps.{needs_of}
 use Rattle.store.specs.Needed.{cells_of, needed_verdict}
-use Rattle.store.specs.declared.Choice.{Choice}
-use Rattle.store.specs.declared.Choice.TheVariants.{Galerkin, Rediscretized}
+use Rattle.store.specs.Handed.{Span}
+pub use Rattle.store.specs.Told.{choice_of}
 use Rattle.store.specs.declared.handed.Cells.{Cells}
-use Rattle.store.specs.declared.handed.Span.{Span}
-use Rattle.store.specs.declared.handed.Span.TheVariants.{At, Nowhere}
 use Rattle.store.specs.declared.needs.Needs.{Needs}
-use Rattle.programs.specs.Reading.{Machine, finished}
+use Rattle.programs.specs.Reading.{Machine, answer_words, finished}
 
 -- ---- the input
 
@@ -62,11 +60,6 @@ lattice_from cells scalars =
       shift = get_or scalars 4 nan;
     }))
 
--- 0 is Galerkin, every other number rediscretized
-unfoldable pub choice_of : ℕ → Choice
-choice_of zero = Galerkin
-choice_of (suc n) = Rediscretized
-
 -- the input of a setup but for the permittivities
 abbrev pub input_from : List ℕ → List Float → List Float → List Float → List Float → List Float → List Float → List Float → ℕ → ℕ → Input
 input_from cells scalars xn xh yn yh zn zh choice coarsest = input_of (lattice_from cells scalars) xn xh yn yh zn zh (choice_of choice) coarsest
@@ -97,7 +90,7 @@ pub record CallLeft (r : Result) (out out' : List ℕ) (s' : Store) : Type 0 whe
 -- ---- a file: number and place of what its reading answers, the numbers held, and the lists; m is the machine behind the last byte
 
 pub record ReadLeft (m : Machine) (out out' : List ℕ) (held' : List Float) (s' : Store) : Type 0 where
-  pub answer_left : out' ≡ laid out 0 ((finished m.reader).number ∷ ((finished m.reader).place ∷ []))
+  pub answer_left : out' ≡ laid out 0 (answer_words (finished m.reader))
   pub held_left : held' ≡ m.held
   pub store_left : s' ≡ m.store
 
@@ -135,9 +128,9 @@ is_turned n = not (eqb n 0)
 
 -- where the terms of a row begin and how many there are, each term k places; 0 and 0 where there is no such row
 abbrev pub spanned : ℕ → Span → List ℕ
-spanned k (At i j) = k * i ∷ (k * (j - i) ∷ [])
-spanned k Nowhere = 0 ∷ (0 ∷ [])
+spanned k (Some (i, j)) = k * i ∷ (k * (j - i) ∷ [])
+spanned k None = 0 ∷ (0 ∷ [])
 
 -- the row's ends are in order, and its places are numbers of the machine
 pub record Within (k : ℕ) (s : Span) : Type 0 where
-  pub held : (i j : ℕ) → s ≡ At i j → (i ≤ j) × (k * j < 2 ^ 64)
+  pub held : (i j : ℕ) → s ≡ Some (i, j) → (i ≤ j) × (k * j < 2 ^ 64)

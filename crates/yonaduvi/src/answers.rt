@@ -1,19 +1,13 @@
 // What the calls leave in the lists that they are lent. What would lie past the end of a list is left out.
 
-ghost use Rattle.std.specs.Prelude.{◌≡◌, [], ◌∷◌, ◌≤◌, length};
+ghost use Rattle.std.specs.Prelude.{◌≡◌, ℕ, List, Err, [], ◌∷◌, ◌≤◌, length};
 ghost use Rattle.numbers.specs.Lists.{laid};
-ghost use Rattle.lattice.specs.Check.{verdict_of};
 ghost use Rattle.store.specs.Steps.{answer_of};
-ghost use Rattle.store.specs.ChangeSteps.{changed_of};
-ghost use Rattle.yonaduvi.specs.Exports.{answered, untouched as untouched_by, list_left, needs_words};
+ghost use Rattle.yonaduvi.specs.Exports.{list_left, needs_words};
 
-use lattice::check;
-use lattice::check::Checked;
 use numbers::lists;
-use store::change::Changed;
 use store::needs::Needs;
-use store::setup;
-use store::setup::Answer;
+use store::setup::Refusal;
 
 pub fn put_two(out: &mut [usize], a: usize, b: usize)
     ensures { out.new ≡ laid out.old 0 (a ∷ (b ∷ [])) }
@@ -22,61 +16,8 @@ pub fn put_two(out: &mut [usize], a: usize, b: usize)
     lists::push(out, k, b);
 }
 
-// A check's number and place; 0 and 0 where nothing is refused.
-fn refusal(c: Checked, out: &mut [usize])
-    ensures { out.new ≡ answered (verdict_of c) out.old }
-{
-    match c {
-        Checked::Sound => put_two(out, 0, 0),
-        Checked::Cells(place) => put_two(out, 1, place),
-        Checked::Scalar(place) => put_two(out, 2, place),
-        Checked::Length(place) => put_two(out, 3, place),
-        Checked::Entry(place) => put_two(out, 4, place),
-    }
-}
-
-// A refusal's number and place, or 0 and the level count.
-pub fn answer(a: Answer, out: &mut [usize])
-    ensures { out.new ≡ answered (answer_of a) out.old }
-{
-    match a {
-        Answer::Levels(n) => put_two(out, 0, n),
-        Answer::Refused(c) => refusal(c, out),
-        Answer::TooMany => put_two(out, 5, 12),
-        Answer::Twice(level) => put_two(out, 8, level),
-        Answer::Short(list) => put_two(out, 6, list),
-        Answer::NotFinite(level) => put_two(out, 7, level),
-    }
-}
-
-// The same of a change.
-pub fn changed(a: Changed, out: &mut [usize])
-    ensures { out.new ≡ answered (changed_of a) out.old }
-{
-    match a {
-        Changed::Answered(b) => answer(b, out),
-        Changed::NoEdge(edge) => put_two(out, 9, edge),
-        Changed::BadValue(edge) => put_two(out, 10, edge),
-        Changed::Differs(level) => put_two(out, 11, level),
-    }
-}
-
-// Whether an answer leaves the lists as they were: refusals 1 to 4.
-fn untouched(a: Answer) -> bool
-    ensures { result ≡ untouched_by (answer_of a) }
-{
-    match a {
-        Answer::Levels(_) => false,
-        Answer::Refused(c) => !check::is_sound(c),
-        Answer::TooMany => false,
-        Answer::Twice(_) => false,
-        Answer::Short(_) => false,
-        Answer::NotFinite(_) => false,
-    }
-}
-
 // Values from a list's beginning on. `requires`: few of them, as both callers have.
-fn put(list: &mut [usize], values: &[usize])
+pub fn put(list: &mut [usize], values: &[usize])
     requires { length values.now ≤ 64 }
     ensures { list.new ≡ laid list.old 0 values.now }
 {
@@ -86,19 +27,14 @@ fn put(list: &mut [usize], values: &[usize])
     }
 }
 
-// What an answer leaves in a list: the values, or what stood there, or zero in every place.
-pub fn leave(a: Answer, list: &mut [usize], values: &[usize])
-    requires { length values.now ≤ 64 }
-    ensures { list.new ≡ list_left (answer_of a) list.old values.now }
+// What a refusal leaves in a list: refusals 1 to 4 what stood there, the others zero in every place.
+pub fn leave(r: Refusal, list: &mut [usize])
+    ensures { (vs : List ℕ) → list.new ≡ list_left (answer_of (Err r)) list.old vs }
 {
-    if untouched(a) {
-        return;
+    match r {
+        Refusal::Input(_) => {}
+        _ => list.fill(0),
     }
-    if setup::goes_on(a) {
-        put(list, values);
-        return;
-    }
-    lists::zeros(list);
 }
 
 // The places that each of the twelve lists needs, in the order in which a setup takes them.

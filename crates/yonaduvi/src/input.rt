@@ -2,12 +2,11 @@
 // anything else for Bloch) and the two parts of its phase.
 
 ghost use Rattle.std.specs.Prelude.{◌≡◌};
-ghost use Rattle.yonaduvi.specs.Exports.{edges_from, no_lattice, lattice_from, choice_of};
+ghost use Rattle.yonaduvi.specs.Exports.{edges_from, no_lattice, lattice_from};
 
 use lattice::grid::Grid3d;
 use lattice::lattice::{Edges, Lattice};
 use numbers::C64;
-use store::Choice;
 
 fn edges(kind: f64, re: f64, im: f64) -> Edges
     ensures { result ≡ edges_from kind re im }
@@ -64,14 +63,4 @@ pub fn lattice_from(cells: &[usize], scalars: &[f64]) -> Lattice
         k0: scalars[3],
         shift: scalars[4],
     }
-}
-
-// 0 is Galerkin, every other number rediscretized.
-pub fn choice_of(n: usize) -> Choice
-    ensures { result ≡ choice_of n }
-{
-    if n == 0 {
-        return Choice::Galerkin;
-    }
-    Choice::Rediscretized
 }

@@ -16,7 +16,8 @@ ghost use Rattle.yonaduvi.specs.Exports.{input_from, CallLeft, ReadLeft, NeedsLe
 use changes::change;
 use numbers::C64;
 use programs::{feed, reader};
-use store::{handed, needed, setup};
+use store::told::Told;
+use store::{Choice, handed, needed, setup};
 
 pub mod answers;
 pub mod input;
@@ -67,7 +68,7 @@ pub extern "C" fn yonaduvi_setup(
         zn,
         zh,
         given,
-        input::choice_of(choice),
+        Choice::from(choice),
         coarsest,
         ends,
         eps,
@@ -82,7 +83,8 @@ pub extern "C" fn yonaduvi_setup(
         ovalues,
         scaling,
     );
-    answers::answer(a, out);
+    let t = Told::from(a);
+    answers::put_two(out, t.number, t.place);
 }
 
 // A change: the permittivity of edge `edge` of level 0 set to (re, im) in a store that a setup with this input left, and what it reaches worked out anew.
@@ -132,7 +134,7 @@ pub extern "C" fn yonaduvi_change(
         yh,
         zn,
         zh,
-        input::choice_of(choice),
+        Choice::from(choice),
         coarsest,
         edge,
         C64 { re, im },
@@ -149,7 +151,8 @@ pub extern "C" fn yonaduvi_change(
         ovalues,
         scaling,
     );
-    answers::changed(a, out);
+    let t = Told::from(a);
+    answers::put_two(out, t.number, t.place);
 }
 
 // A file (docs/SPECIFICATION.md, 13): reads its bytes, sets the levels up and changes them as the records say. `limit`: the most cells that are taken. `held`: what
@@ -194,8 +197,10 @@ pub extern "C" fn yonaduvi_read(
         ovalues,
         scaling,
     );
-    let t = reader::finish(r);
-    answers::put_two(out, t.number, t.place);
+    match reader::finish(r) {
+        Ok(levels) => answers::put_two(out, 0, levels),
+        Err(t) => answers::put_two(out, t.number, t.place),
+    }
 }
 
 // What such a setup needs: in `out` refusals 1 to 4 (of everything but the permittivities), 5 and 8, or 0 and the level count; in `needs` the places of
@@ -222,16 +227,21 @@ pub extern "C" fn yonaduvi_needs(
         needs.new counts.new }
 {
     let v = input::lattice_from(cells, scalars);
-    let ch = input::choice_of(choice);
-    let found = needed::setup_needs(v, xn, xh, yn, yh, zn, zh, ch, coarsest);
-    let a = found.answer;
-    let places = answers::needs_words(found.needs);
-    let counted = found.cells;
-    let on_axes = counted.cells;
-    let words = answers::cells_words(on_axes, counted.levels);
-    answers::answer(a, out);
-    answers::leave(a, needs, &places);
-    answers::leave(a, counts, &words);
+    let ch = Choice::from(choice);
+    let found = match needed::setup_needs(v, xn, xh, yn, yh, zn, zh, ch, coarsest) {
+        Ok(found) => found,
+        Err(refusal) => {
+            let t = Told::from(refusal);
+            answers::put_two(out, t.number, t.place);
+            answers::leave(refusal, needs);
+            answers::leave(refusal, counts);
+            return;
+        }
+    };
+    let c = found.cells;
+    answers::put_two(out, 0, c.levels);
+    answers::put(needs, &answers::needs_words(found.needs));
+    answers::put(counts, &answers::cells_words(c.cells, c.levels));
 }
 
 // Where the weights of row `row` of the transfer from level `level` + 1 to `level` stand: in `out` the first double and the count of doubles, in `values`

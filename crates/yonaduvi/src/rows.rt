@@ -5,7 +5,7 @@ ghost use Rattle.numbers.specs.Lists.{laid};
 ghost use Rattle.yonaduvi.specs.Exports.{cells_from, spanned, Within};
 
 use crate::answers;
-use store::handed::{Cells, Span};
+use store::handed::Cells;
 
 // A word of a list, 0 where it has none there.
 fn word(list: &[usize], k: usize) -> usize
@@ -32,12 +32,12 @@ pub fn cells_from(counts: &[usize]) -> Cells
 }
 
 // Where the terms of a row begin and how many there are, each term k places; 0 and 0 where there is no such row.
-pub fn put_span(s: Span, k: usize, out: &mut [usize])
+pub fn put_span(s: Option<(usize, usize)>, k: usize, out: &mut [usize])
     requires { Within k s }
     ensures { out.new ≡ laid out.old 0 (spanned k s) }
 {
     match s {
-        Span::At(i, j) => answers::put_two(out, k * i, k * (j - i)),
-        Span::Nowhere => answers::put_two(out, 0, 0),
+        Some((i, j)) => answers::put_two(out, k * i, k * (j - i)),
+        None => answers::put_two(out, 0, 0),
     }
 }

@@ -4,9 +4,8 @@ use mathlib.Core.Path.{ap, ◌∙◌}
 use native.Mathlib.Omega.{arith}
 use lib.ListN.{length}
 use Rattle.numbers.specs.Lists.{laid}
-use Rattle.store.specs.Handed.{operator_row}
+use Rattle.store.specs.Handed.{Span, operator_row}
 use Rattle.store.specs.declared.handed.Cells.{Cells}
-use Rattle.store.specs.declared.handed.Span.{Span}
 use Rattle.yonaduvi.specs.Exports.{spanned}
 use Rattle.yonaduvi.proofs.RowLaws.{operator_within}
 use Rattle.yonaduvi.proofs.yonaduvi_operator_row.Goals as goal

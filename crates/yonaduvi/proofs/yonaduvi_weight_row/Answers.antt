@@ -5,9 +5,8 @@ use mathlib.Core.Path.{ap, ◌∙◌}
 use native.Mathlib.Omega.{arith}
 use lib.ListN.{length}
 use Rattle.numbers.specs.Lists.{laid}
-use Rattle.store.specs.Handed.{weight_terms}
+use Rattle.store.specs.Handed.{Span, weight_terms}
 use Rattle.store.specs.declared.handed.Cells.{Cells}
-use Rattle.store.specs.declared.handed.Span.{Span}
 use Rattle.yonaduvi.specs.Exports.{is_turned, spanned}
 use Rattle.yonaduvi.proofs.RowLaws.{weights_within}
 use Rattle.yonaduvi.proofs.yonaduvi_weight_row.Goals as goal

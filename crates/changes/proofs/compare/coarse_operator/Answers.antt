@@ -1,5 +1,5 @@
+use Rattle.std.proofs.Common.{◌≡◌, ◌+◌, suc}
 use Rattle.store.proofs.CompareLaws.{next_edges_lem, gives_long, operators_start, operators_room, operators_most, operators_bad, operators_behind, operators_turn, operators_end}
-use Prim.Native.Nat.{suc}
 use native.Mathlib.Omega.{arith}
 use Rattle.lattice.specs.Lattice.{full_lattice}
 use Rattle.changes.proofs.compare.coarse_operator.Goals as goal
@@ -10,29 +10,14 @@ base_relations-u-requires c = c.requires.limits
 pub loop-level-init : goal.loop-level-init
 loop-level-init c = operators_start c.requires.limits _ c.requires.m_nonzero.0 c.base_relations-u.ensures
 
-pub next_columns-u-requires-clause-limits : goal.next_columns-u-requires-clause-limits
-next_columns-u-requires-clause-limits c = c.requires.limits
-
 pub next_columns-u-requires-clause-level_lt_m : goal.next_columns-u-requires-clause-level_lt_m
 next_columns-u-requires-clause-level_lt_m c = (c.loop-level-test.true, c.requires.m_nonzero.1)
-
-pub next_columns-u-requires-clause-has_lines : goal.next_columns-u-requires-clause-has_lines
-next_columns-u-requires-clause-has_lines c = c.requires.has_lines
 
 pub next_columns-u-requires-clause-gives : goal.next_columns-u-requires-clause-gives
 next_columns-u-requires-clause-gives c = c.loop-level.invariant.gives
 
 pub overflow_add-level : goal.overflow_add-level
 overflow_add-level c = omega (arith, c.loop-level-test.true, c.requires.m_nonzero.1)
-
-pub same_operator-requires-clause-limits : goal.same_operator-requires-clause-limits
-same_operator-requires-clause-limits c = c.requires.limits
-
-pub same_operator-requires-clause-level_le_m : goal.same_operator-requires-clause-level_le_m
-same_operator-requires-clause-level_le_m c = (omega (arith, c.loop-level-test.true), c.requires.m_nonzero.1)
-
-pub same_operator-requires-clause-has_lines : goal.same_operator-requires-clause-has_lines
-same_operator-requires-clause-has_lines c = c.requires.has_lines
 
 pub same_operator-requires-clause-u_len : goal.same_operator-requires-clause-u_len
 same_operator-requires-clause-u_len c = gives_long (full_lattice c.args.l c.args.st.now) c.requires.limits c.args.choice (suc c.loop-level.level) c.next_columns-u.result c.next_columns-u.ensures
@@ -47,19 +32,10 @@ pub overflow_add-result : goal.overflow_add-result
 overflow_add-result c = omega (arith, c.loop-level-test.true, c.requires.m_nonzero.1)
 
 pub returns-then-not-same_operator : goal.returns-then-not-same_operator
-returns-then-not-same_operator c = operators_bad c.requires.limits _ c.loop-level.invariant c.loop-level-test.true c.requires.m_in_bounds.0 c.requires.m_in_bounds.1 c.next_columns-u.result c.next_columns-u.ensures c.same_operator.ensures (c.if-not-same_operator.true)
+returns-then-not-same_operator c = (omega (arith, c.loop-level-test.true), operators_bad c.requires.limits _ c.loop-level.invariant c.loop-level-test.true c.requires.m_in_bounds.0 c.requires.m_in_bounds.1 c.next_columns-u.result c.next_columns-u.ensures c.same_operator.ensures (c.if-not-same_operator.true))
 
 pub overflow_add-level-in-loop-level : goal.overflow_add-level-in-loop-level
 overflow_add-level-in-loop-level c = omega (arith, c.loop-level-test.true, c.requires.m_nonzero.1)
-
-pub level_edges-requires-clause-limits : goal.level_edges-requires-clause-limits
-level_edges-requires-clause-limits c = c.requires.limits
-
-pub level_edges-requires-clause-level_le_m : goal.level_edges-requires-clause-level_le_m
-level_edges-requires-clause-level_le_m c = (omega (arith, c.loop-level-test.true), c.requires.m_nonzero.1)
-
-pub level_edges-requires-clause-has_lines : goal.level_edges-requires-clause-has_lines
-level_edges-requires-clause-has_lines c = c.requires.has_lines
 
 pub behind-o-requires : goal.behind-o-requires
 behind-o-requires c = operators_behind c.requires.limits _ c.loop-level.invariant c.loop-level-test.true c.requires.m_in_bounds.0 c.requires.m_in_bounds.1 c.next_columns-u.result c.next_columns-u.ensures c.same_operator.ensures (c.if-not-same_operator.false) (next_edges_lem _ _ c.level_edges.ensures) c.requires.m_nonzero.1
@@ -70,8 +46,5 @@ loop-level-smaller c = omega (arith, c.loop-level-test.true)
 pub loop-level-preserved : goal.loop-level-preserved
 loop-level-preserved c = operators_turn c.requires.limits _ c.loop-level.invariant c.loop-level-test.true c.requires.m_in_bounds.0 c.requires.m_in_bounds.1 c.next_columns-u.result c.next_columns-u.ensures c.same_operator.ensures (c.if-not-same_operator.false) (next_edges_lem _ _ c.level_edges.ensures) c.behind-o.ensures
 
-pub overflow_add-result-2 : goal.overflow_add-result-2
-overflow_add-result-2 c = omega (arith, c.requires.m_nonzero.1)
-
 pub returns : goal.returns
-returns c = operators_end c.loop-level.invariant c.loop-level-test.false
+returns c = let z : c.args.m + 1 ≡ suc c.args.m = omega arith in rw z at (operators_end c.loop-level.invariant c.loop-level-test.false)

@@ -1,16 +1,7 @@
 -- `store::compare::first_difference` meets its contract. The least of the three.
 -- Assumes nothing.
-use Rattle.store.proofs.CompareLaws.{first_is}
+use Rattle.changes.proofs.FirstLaws.{first_in}
 use Rattle.changes.proofs.compare.first_difference.Goals as goal
-
-pub first_transfer-t-requires-clause-limits : goal.first_transfer-t-requires-clause-limits
-first_transfer-t-requires-clause-limits c = c.requires.limits
-
-pub first_transfer-t-requires-clause-m_bound : goal.first_transfer-t-requires-clause-m_bound
-first_transfer-t-requires-clause-m_bound c = c.requires.m_bound
-
-pub first_transfer-t-requires-clause-has_lines : goal.first_transfer-t-requires-clause-has_lines
-first_transfer-t-requires-clause-has_lines c = c.requires.has_lines
 
 pub first_transfer-t-requires-clause-m_in_bounds : goal.first_transfer-t-requires-clause-m_in_bounds
 first_transfer-t-requires-clause-m_in_bounds c = (c.requires.fixed_room.fs_room, c.requires.fixed_room.fc_room)
@@ -18,17 +9,8 @@ first_transfer-t-requires-clause-m_in_bounds c = (c.requires.fixed_room.fs_room,
 pub first_transfer-t-requires-clause-m_in_bounds_2 : goal.first_transfer-t-requires-clause-m_in_bounds_2
 first_transfer-t-requires-clause-m_in_bounds_2 c = (c.requires.fixed_room.ts_room, c.requires.fixed_room.tc_room)
 
-pub first_operator-o-requires-clause-limits : goal.first_operator-o-requires-clause-limits
-first_operator-o-requires-clause-limits c = c.requires.limits
-
-pub first_operator-o-requires-clause-m_bound : goal.first_operator-o-requires-clause-m_bound
-first_operator-o-requires-clause-m_bound c = c.requires.m_bound
-
-pub first_operator-o-requires-clause-has_lines : goal.first_operator-o-requires-clause-has_lines
-first_operator-o-requires-clause-has_lines c = c.requires.has_lines
-
 pub first_operator-o-requires-clause-m_in_bounds : goal.first_operator-o-requires-clause-m_in_bounds
 first_operator-o-requires-clause-m_in_bounds c = (c.requires.fixed_room.os_room, c.requires.fixed_room.oc_room)
 
 pub returns : goal.returns
-returns c = first_is _ _ _ _ c.first_ends-e.ensures c.first_transfer-t.ensures c.first_operator-o.ensures c.lesser.ensures c.lesser-2.ensures
+returns c = first_in _ _ _ _ _ _ _ _ _ c.first_ends-e.ensures c.first_transfer-t.ensures c.first_operator-o.ensures c.earlier.ensures c.earlier-2.ensures

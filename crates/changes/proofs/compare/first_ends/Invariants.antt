@@ -8,4 +8,4 @@ use Rattle.changes.proofs.compare.first_ends.Given as goal
 
 abbrev pub invariant-loop-q : goal.invariant-loop-q
 invariant-loop-q l =
-    (g : FullLattice) → Limits g.grid → HasLines g l.m l.lines → EndsGoing g l.m l.ends l.next l.q
+    (g : FullLattice) → Limits g.grid → HasLines g l.m l.fn.lines → EndsGoing g l.m l.ends l.next l.q

@@ -1,3 +1,4 @@
+use Rattle.std.proofs.Common.{◌≡◌, ◌+◌, suc}
 use native.Mathlib.Omega.{arith}
 use Rattle.store.proofs.CompareLaws.{next_edges_lem, transfers_start, forward_room, turned_room_lem, transfers_bad, forward_behind, turned_behind, transfers_turn, transfers_end}
 use Rattle.changes.proofs.compare.first_transfer.Goals as goal
@@ -5,14 +6,8 @@ use Rattle.changes.proofs.compare.first_transfer.Goals as goal
 pub loop-level-init : goal.loop-level-init
 loop-level-init c = transfers_start
 
-pub same_transfer-requires-clause-limits : goal.same_transfer-requires-clause-limits
-same_transfer-requires-clause-limits c = c.requires.limits
-
 pub same_transfer-requires-clause-level_lt_m : goal.same_transfer-requires-clause-level_lt_m
 same_transfer-requires-clause-level_lt_m c = (c.loop-level-test.true, c.requires.m_bound)
-
-pub same_transfer-requires-clause-has_lines : goal.same_transfer-requires-clause-has_lines
-same_transfer-requires-clause-has_lines c = c.requires.has_lines
 
 pub same_transfer-requires-clause-part_room : goal.same_transfer-requires-clause-part_room
 same_transfer-requires-clause-part_room c = (forward_room c.loop-level.invariant c.loop-level-test.true c.requires.m_in_bounds.0 c.requires.m_in_bounds.1)
@@ -21,31 +16,13 @@ pub same_transfer-requires-clause-part_room_2 : goal.same_transfer-requires-clau
 same_transfer-requires-clause-part_room_2 c = (turned_room_lem c.loop-level.invariant c.loop-level-test.true c.requires.m_in_bounds_2.0 c.requires.m_in_bounds_2.1)
 
 pub returns-then-not-same_transfer : goal.returns-then-not-same_transfer
-returns-then-not-same_transfer c = transfers_bad c.loop-level.invariant c.loop-level-test.true c.same_transfer.ensures (c.if-not-same_transfer.true)
-
-pub level_edges-requires-clause-limits : goal.level_edges-requires-clause-limits
-level_edges-requires-clause-limits c = c.requires.limits
-
-pub level_edges-requires-clause-level_le_m : goal.level_edges-requires-clause-level_le_m
-level_edges-requires-clause-level_le_m c = (omega (arith, c.loop-level-test.true), c.requires.m_bound)
-
-pub level_edges-requires-clause-has_lines : goal.level_edges-requires-clause-has_lines
-level_edges-requires-clause-has_lines c = c.requires.has_lines
+returns-then-not-same_transfer c = (omega (arith, c.loop-level-test.true), transfers_bad c.loop-level.invariant c.loop-level-test.true c.same_transfer.ensures (c.if-not-same_transfer.true))
 
 pub behind-o-requires : goal.behind-o-requires
 behind-o-requires c = forward_behind c.loop-level.invariant c.loop-level-test.true c.same_transfer.ensures (c.if-not-same_transfer.false) c.requires.limits c.requires.m_bound c.level_edges.ensures (forward_room c.loop-level.invariant c.loop-level-test.true c.requires.m_in_bounds.0 c.requires.m_in_bounds.1)
 
 pub overflow_add-level : goal.overflow_add-level
 overflow_add-level c = omega (arith, c.loop-level-test.true, c.requires.m_bound)
-
-pub level_edges-requires-in-loop-level-clause-limits : goal.level_edges-requires-in-loop-level-clause-limits
-level_edges-requires-in-loop-level-clause-limits c = c.requires.limits
-
-pub level_edges-requires-in-loop-level-clause-level_le_m : goal.level_edges-requires-in-loop-level-clause-level_le_m
-level_edges-requires-in-loop-level-clause-level_le_m c = (omega (arith, c.loop-level-test.true), c.requires.m_bound)
-
-pub level_edges-requires-in-loop-level-clause-has_lines : goal.level_edges-requires-in-loop-level-clause-has_lines
-level_edges-requires-in-loop-level-clause-has_lines c = c.requires.has_lines
 
 pub behind-t-requires : goal.behind-t-requires
 behind-t-requires c = turned_behind c.loop-level.invariant c.loop-level-test.true c.same_transfer.ensures (c.if-not-same_transfer.false) c.requires.limits c.requires.m_bound (next_edges_lem _ _ c.level_edges-in-loop-level.ensures) (turned_room_lem c.loop-level.invariant c.loop-level-test.true c.requires.m_in_bounds_2.0 c.requires.m_in_bounds_2.1)
@@ -56,8 +33,5 @@ loop-level-smaller c = omega (arith, c.loop-level-test.true)
 pub loop-level-preserved : goal.loop-level-preserved
 loop-level-preserved c = transfers_turn c.loop-level.invariant c.loop-level-test.true c.same_transfer.ensures (c.if-not-same_transfer.false) c.level_edges.ensures (next_edges_lem _ _ c.level_edges-in-loop-level.ensures) c.behind-o.ensures c.behind-t.ensures
 
-pub overflow_add-result : goal.overflow_add-result
-overflow_add-result c = omega (arith, c.requires.m_bound)
-
 pub returns : goal.returns
-returns c = transfers_end c.loop-level.invariant c.loop-level-test.false
+returns c = let z : c.args.m + 1 ≡ suc c.args.m = omega arith in rw z at (transfers_end c.loop-level.invariant c.loop-level-test.false)

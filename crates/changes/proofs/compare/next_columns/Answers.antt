@@ -7,15 +7,6 @@ use Rattle.operators.specs.Levels.{base_relations}
 use Rattle.store.proofs.LineLaws.{lines_limits, grid_is}
 use Rattle.changes.proofs.compare.next_columns.Goals as goal
 
-pub next_relations-requires-clause-limits : goal.next_relations-requires-clause-limits
-next_relations-requires-clause-limits c = c.requires.limits
-
-pub next_relations-requires-clause-level_lt_m : goal.next_relations-requires-clause-level_lt_m
-next_relations-requires-clause-level_lt_m c = c.requires.level_lt_m
-
-pub next_relations-requires-clause-has_lines : goal.next_relations-requires-clause-has_lines
-next_relations-requires-clause-has_lines c = c.requires.has_lines
-
 pub next_relations-requires-clause-relations : goal.next_relations-requires-clause-relations
 next_relations-requires-clause-relations c = rw c.in-Galerkin.is at c.requires.gives
 

@@ -19,12 +19,6 @@ loop-r-init c = (refl, going_start)
 pub at-p-requires : goal.at-p-requires
 at-p-requires c = c.requires.limits
 
-pub row_columns-count-requires-clause-t_len : goal.row_columns-count-requires-clause-t_len
-row_columns-count-requires-clause-t_len c = c.requires.u_len
-
-pub row_columns-count-requires-clause-limits : goal.row_columns-count-requires-clause-limits
-row_columns-count-requires-clause-limits c = c.requires.limits
-
 pub row_columns-count-requires-clause-inside : goal.row_columns-count-requires-clause-inside
 row_columns-count-requires-clause-inside c = at_in c.requires.limits (omega (arith, c.loop-r-test.true, c.unknowns-n.ensures)) c.at-p.ensures
 

@@ -1,22 +1,30 @@
+use Rattle.std.proofs.Common.{◌<◌}
+use Rattle.changes.proofs.SliceLaws.{part_at}
 use Rattle.store.proofs.TurnLaws.{row_start, row_turn, row_stop, row_end, row_true}
 use mathlib.Core.Path.{refl}
 use native.Mathlib.Omega.{arith}
 use Rattle.changes.proofs.compare.same_terms.Goals as goal
 
-pub loop-q-init : goal.loop-q-init
-loop-q-init c = (omega arith, row_start c.args.columns.now c.args.k c.args.r)
+pub loop-c-init : goal.loop-c-init
+loop-c-init c = (omega arith, row_start c.args.columns.now c.args.k c.args.r)
 
 pub same_term-requires-clause-c_lt_m : goal.same_term-requires-clause-c_lt_m
-same_term-requires-clause-c_lt_m c = (c.requires.by_index _ c.loop-q-test.true, omega (arith, c.loop-q.invariant.1.long, c.requires.n_in_bounds.1))
-
-pub same_term-requires-clause-count_in_bounds : goal.same_term-requires-clause-count_in_bounds
-same_term-requires-clause-count_in_bounds c = c.requires.count_in_bounds
+same_term-requires-clause-c_lt_m c =
+    let h : c.loop-c.c-index < c.args.n = omega arith in
+    let z = part_at c.args.columns.now c.args.k c.args.n c.loop-c.c-index h in
+    rw z (c.requires.by_index _ h, omega (arith, c.loop-c.invariant.1.long, c.requires.n_in_bounds.1))
 
 pub returns-then-not-same_term : goal.returns-then-not-same_term
-returns-then-not-same_term c = row_stop c.args.columns.now c.args.k c.args.r c.loop-q.q c.loop-q.invariant.1 c.same_term.ensures _ c.loop-q-test.true (c.if-not-same_term.true) refl
+returns-then-not-same_term c =
+    let h : c.loop-c.c-index < c.args.n = omega arith in
+    let z = part_at c.args.columns.now c.args.k c.args.n c.loop-c.c-index h in
+    row_stop c.args.columns.now c.args.k c.args.r c.loop-c.c-index c.loop-c.invariant.1 (rw z at c.same_term.ensures) _ h (c.if-not-same_term.true) refl
 
-pub loop-q-preserved : goal.loop-q-preserved
-loop-q-preserved c = (omega (arith, c.loop-q-test.true), row_true (row_turn c.args.columns.now c.args.k c.args.r c.loop-q.q c.loop-q.invariant.1 c.same_term.ensures) (c.if-not-same_term.false))
+pub loop-c-preserved : goal.loop-c-preserved
+loop-c-preserved c =
+    let h : c.loop-c.c-index < c.args.n = omega arith in
+    let z = part_at c.args.columns.now c.args.k c.args.n c.loop-c.c-index h in
+    (omega (arith, h), row_true (row_turn c.args.columns.now c.args.k c.args.r c.loop-c.c-index c.loop-c.invariant.1 (rw z at c.same_term.ensures)) (c.if-not-same_term.false))
 
 pub returns : goal.returns
-returns c = row_end c.args.columns.now c.args.k c.args.r c.loop-q.q c.args.n c.loop-q.invariant.1 (omega (arith, c.loop-q.invariant.0, c.loop-q-test.false))
+returns c = row_end c.args.columns.now c.args.k c.args.r c.loop-c.c-index c.args.n c.loop-c.invariant.1 (omega (arith, c.loop-c.invariant.0, c.loop-c-test.false))

@@ -14,21 +14,6 @@ same_forward-requires-clause-part_room c = forward_asked _ c.requires.limits _ c
 pub returns-then-not-same_forward : goal.returns-then-not-same_forward
 returns-then-not-same_forward c = rw (sym (forward_told _ c.requires.limits _ c.requires.has_lines c.requires.level_lt_m.0 c.three-fine.ensures c.three-coarse.ensures c.requires.part_room c.same_forward.ensures) ∙ c.if-not-same_forward.true) refl
 
-pub same_turned-requires-clause-limits : goal.same_turned-requires-clause-limits
-same_turned-requires-clause-limits c = c.requires.limits
-
-pub same_turned-requires-clause-level_lt_m : goal.same_turned-requires-clause-level_lt_m
-same_turned-requires-clause-level_lt_m c = c.requires.level_lt_m
-
-pub same_turned-requires-clause-has_lines : goal.same_turned-requires-clause-has_lines
-same_turned-requires-clause-has_lines c = c.requires.has_lines
-
-pub same_turned-requires-clause-part_room : goal.same_turned-requires-clause-part_room
-same_turned-requires-clause-part_room c = c.requires.part_room
-
-pub same_turned-requires-clause-part_room_2 : goal.same_turned-requires-clause-part_room_2
-same_turned-requires-clause-part_room_2 c = c.requires.part_room_2
-
 pub same_turned-requires-clause-columns_value : goal.same_turned-requires-clause-columns_value
 same_turned-requires-clause-columns_value c = sym (forward_told _ c.requires.limits _ c.requires.has_lines c.requires.level_lt_m.0 c.three-fine.ensures c.three-coarse.ensures c.requires.part_room c.same_forward.ensures) ∙ c.if-not-same_forward.false
 

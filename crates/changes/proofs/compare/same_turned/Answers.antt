@@ -5,24 +5,6 @@ use native.Mathlib.Omega.{arith}
 use Rattle.store.proofs.CompareLaws.{turned_places, turned_walk, turned_bad, turned_end}
 use Rattle.changes.proofs.compare.same_turned.Goals as goal
 
-pub level_edges-n-requires-clause-limits : goal.level_edges-n-requires-clause-limits
-level_edges-n-requires-clause-limits c = c.requires.limits
-
-pub level_edges-n-requires-clause-level_le_m : goal.level_edges-n-requires-clause-level_le_m
-level_edges-n-requires-clause-level_le_m c = (omega (arith, c.requires.level_lt_m), c.requires.level_lt_m.1)
-
-pub level_edges-n-requires-clause-has_lines : goal.level_edges-n-requires-clause-has_lines
-level_edges-n-requires-clause-has_lines c = c.requires.has_lines
-
-pub level_edges-w-requires-clause-limits : goal.level_edges-w-requires-clause-limits
-level_edges-w-requires-clause-limits c = c.requires.limits
-
-pub level_edges-w-requires-clause-level_le_m : goal.level_edges-w-requires-clause-level_le_m
-level_edges-w-requires-clause-level_le_m c = (omega (arith, c.requires.level_lt_m), c.requires.level_lt_m.1)
-
-pub level_edges-w-requires-clause-has_lines : goal.level_edges-w-requires-clause-has_lines
-level_edges-w-requires-clause-has_lines c = c.requires.has_lines
-
 pub overflow_add-count : goal.overflow_add-count
 overflow_add-count c = omega (arith, c.level_edges-n.ensures, c.requires.part_room.starts_room)
 

@@ -1,18 +1,11 @@
 -- `store::compare::sole_operator` meets its contract. Level 0 is stored where it is the only one.
 -- Assumes nothing.
+use Rattle.std.proofs.Common.{◌≡◌, suc, subst}
+use Rattle.store.specs.Compare.{Lowest}
 use Rattle.store.proofs.CompareLaws.{sole_most, sole_room, sole_good, sole_bad}
 use native.Mathlib.Omega.{arith}
 use Rattle.store.proofs.NeedLaws.{relations_long}
 use Rattle.changes.proofs.compare.sole_operator.Goals as goal
-
-pub same_operator-requires-clause-limits : goal.same_operator-requires-clause-limits
-same_operator-requires-clause-limits c = c.requires.limits
-
-pub same_operator-requires-clause-level_le_m : goal.same_operator-requires-clause-level_le_m
-same_operator-requires-clause-level_le_m c = (omega arith, omega (arith, c.requires.m_value))
-
-pub same_operator-requires-clause-has_lines : goal.same_operator-requires-clause-has_lines
-same_operator-requires-clause-has_lines c = c.requires.has_lines
 
 pub same_operator-requires-clause-u_len : goal.same_operator-requires-clause-u_len
 same_operator-requires-clause-u_len c = relations_long _ c.base_relations-u.ensures
@@ -24,7 +17,7 @@ pub same_operator-requires-clause-part_room : goal.same_operator-requires-clause
 same_operator-requires-clause-part_room c = sole_room _ c.requires.limits _ c.requires.m_value c.args.starts.now c.args.columns.now c.requires.m_in_bounds.0 c.requires.m_in_bounds.1 c.base_relations-u.ensures
 
 pub returns-then-same_operator : goal.returns-then-same_operator
-returns-then-same_operator c = sole_good _ c.requires.limits _ c.requires.m_value c.args.starts.now c.args.columns.now c.requires.m_in_bounds.0 c.requires.m_in_bounds.1 c.base_relations-u.ensures c.same_operator.ensures c.if-same_operator.true
+returns-then-same_operator c = let z : 1 ≡ suc c.args.m = omega (arith, c.requires.m_value) in subst (Lowest _ _) z (sole_good _ c.requires.limits _ c.requires.m_value c.args.starts.now c.args.columns.now c.requires.m_in_bounds.0 c.requires.m_in_bounds.1 c.base_relations-u.ensures c.same_operator.ensures c.if-same_operator.true)
 
 pub returns : goal.returns
-returns c = sole_bad _ c.requires.limits _ c.requires.m_value c.args.starts.now c.args.columns.now c.requires.m_in_bounds.0 c.requires.m_in_bounds.1 c.base_relations-u.ensures c.same_operator.ensures c.if-same_operator.false
+returns c = (omega arith, sole_bad _ c.requires.limits _ c.requires.m_value c.args.starts.now c.args.columns.now c.requires.m_in_bounds.0 c.requires.m_in_bounds.1 c.base_relations-u.ensures c.same_operator.ensures c.if-same_operator.false)

@@ -9,9 +9,11 @@ pub loop-k-init : goal.loop-k-init
 loop-k-init c = (omega arith, rw sub-zero)
 
 pub returns-then-bad_number : goal.returns-then-bad_number
-returns-then-bad_number c =
-    sym (bad_stop _ _ _ c.loop-k-test.true (ap bad_number (sym c.get.ensures) ∙ (sym c.bad_number.ensures ∙ c.if-bad_number.true)))
-    ∙ c.loop-k.invariant.1
+returns-then-bad_number c = (
+  sym (bad_stop _ _ _ c.loop-k-test.true (ap bad_number (sym c.get.ensures) ∙ (sym c.bad_number.ensures ∙ c.if-bad_number.true)))
+      ∙ c.loop-k.invariant.1,
+  c.loop-k-test.true,
+)
 
 pub loop-k-preserved : goal.loop-k-preserved
 loop-k-preserved c = (
@@ -21,4 +23,4 @@ loop-k-preserved c = (
 )
 
 pub returns : goal.returns
-returns c = sym (bad_end _ _ _ c.loop-k-test.false) ∙ c.loop-k.invariant.1
+returns c = (omega arith ∙ (sym (bad_end _ _ _ c.loop-k-test.false) ∙ c.loop-k.invariant.1), tt)

@@ -6,6 +6,3 @@ use Rattle.lattice.proofs.check.first_bad.Given as goal
 
 abbrev pub invariant-loop-k : goal.invariant-loop-k
 invariant-loop-k l = (l.k ≤ l.n) × (first_bad l.xs (l.n - l.k) l.k ≡ first_bad l.xs l.n 0)
-
-abbrev pub decreases-loop-k : goal.decreases-loop-k
-decreases-loop-k l = l.n - l.k

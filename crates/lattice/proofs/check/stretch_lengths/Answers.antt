@@ -1,23 +1,20 @@
 -- `lattice::check::stretch_lengths` meets its contract, axis by axis.
 -- Assumes nothing.
 use mathlib.Core.Path.{sym, ◌∙◌}
+use Rattle.std.proofs.lemmas.Result.{err_from_is_err_and}
 use Rattle.lattice.proofs.CheckLaws.{hands_on, goes_on, lengths_by_axis}
 use Rattle.lattice.proofs.check.stretch_lengths.Goals as goal
 
-pub returns-then-not-is_sound : goal.returns-then-not-is_sound
-returns-then-not-is_sound c = sym (lengths_by_axis c.args.g _ _ _ _ _ _ ∙ hands_on c.axis_lengths-a.result c.axis_lengths-a.ensures c.is_sound.ensures _ (c.if-not-is_sound.true))
+pub returns-in_err-axis_lengths : goal.returns-in_err-axis_lengths
+returns-in_err-axis_lengths c =
+    let p = err_from_is_err_and c.from_residual.result c.from_residual.ensures.1 in
+    rw (p.1, p.2) (hands_on _ _ c.in_err-axis_lengths.ensures ∙ sym (lengths_by_axis c.args.g _ _ _ _ _ _))
 
-pub returns-then-not-is_sound-2 : goal.returns-then-not-is_sound-2
-returns-then-not-is_sound-2 c =
-    sym
-    (lengths_by_axis c.args.g _ _ _ _ _ _
-    ∙ (goes_on c.axis_lengths-a.result c.axis_lengths-a.ensures c.is_sound.ensures _ (c.if-not-is_sound.false)
-    ∙ hands_on c.axis_lengths-b.result c.axis_lengths-b.ensures c.is_sound-2.ensures _ (c.if-not-is_sound-2.true)))
+pub returns-in_err-axis_lengths-2 : goal.returns-in_err-axis_lengths-2
+returns-in_err-axis_lengths-2 c =
+    let p = err_from_is_err_and c.from_residual-in_err-axis_lengths-2.result c.from_residual-in_err-axis_lengths-2.ensures.1 in
+    rw (p.1, p.2) (hands_on _ _ c.in_err-axis_lengths-2.ensures ∙ sym (lengths_by_axis c.args.g _ _ _ _ _ _ ∙ goes_on _ c.in_ok-axis_lengths.ensures))
 
 pub returns : goal.returns
 returns c =
-    c.axis_lengths.ensures
-    ∙ sym
-    (lengths_by_axis c.args.g _ _ _ _ _ _
-    ∙ (goes_on c.axis_lengths-a.result c.axis_lengths-a.ensures c.is_sound.ensures _ (c.if-not-is_sound.false)
-    ∙ goes_on c.axis_lengths-b.result c.axis_lengths-b.ensures c.is_sound-2.ensures _ (c.if-not-is_sound-2.false)))
+    c.axis_lengths-3.ensures ∙ sym (lengths_by_axis c.args.g _ _ _ _ _ _ ∙ (goes_on _ c.in_ok-axis_lengths.ensures ∙ goes_on _ c.in_ok-axis_lengths-2.ensures))

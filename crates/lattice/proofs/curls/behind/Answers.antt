@@ -4,9 +4,6 @@ use Rattle.numbers.proofs.TermLaws.{wrote_append, wrote_most}
 use Rattle.lattice.proofs.RowLaws.{with_in, here_most}
 use Rattle.lattice.proofs.curls.behind.Goals as goal
 
-pub neighbour-to-requires-clause-limits : goal.neighbour-to-requires-clause-limits
-neighbour-to-requires-clause-limits c = c.requires.limits
-
 pub neighbour-to-requires-clause-inside : goal.neighbour-to-requires-clause-inside
 neighbour-to-requires-clause-inside c = with_in c.requires.inside c.requires.field_bound c.with_component.ensures
 

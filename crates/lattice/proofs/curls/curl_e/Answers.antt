@@ -6,9 +6,6 @@ use Rattle.numbers.proofs.TermLaws.{wrote_append, wrote_most}
 use Rattle.lattice.proofs.RowLaws.{at_in, ahead_most}
 use Rattle.lattice.proofs.curls.curl_e.Goals as goal
 
-pub ahead-k-requires-clause-limits : goal.ahead-k-requires-clause-limits
-ahead-k-requires-clause-limits c = c.requires.limits
-
 pub ahead-k-requires-clause-inside : goal.ahead-k-requires-clause-inside
 ahead-k-requires-clause-inside c = at_in c.requires.limits c.requires.r_bound c.at-p.ensures
 
@@ -17,9 +14,6 @@ ahead-k-requires-clause-along_bound c = rw c.next_axis-b.ensures (next_low _)
 
 pub ahead-k-requires-clause-field_bound : goal.ahead-k-requires-clause-field_bound
 ahead-k-requires-clause-field_bound c = rw c.last_axis-c.ensures (last_low _)
-
-pub ahead-requires-clause-limits : goal.ahead-requires-clause-limits
-ahead-requires-clause-limits c = c.requires.limits
 
 pub ahead-requires-clause-inside : goal.ahead-requires-clause-inside
 ahead-requires-clause-inside c = at_in c.requires.limits c.requires.r_bound c.at-p.ensures

@@ -6,9 +6,6 @@ use Rattle.numbers.proofs.TermLaws.{wrote_append, wrote_most}
 use Rattle.lattice.proofs.RowLaws.{at_in, behind_most}
 use Rattle.lattice.proofs.curls.curl_h.Goals as goal
 
-pub behind-k-requires-clause-limits : goal.behind-k-requires-clause-limits
-behind-k-requires-clause-limits c = c.requires.limits
-
 pub behind-k-requires-clause-inside : goal.behind-k-requires-clause-inside
 behind-k-requires-clause-inside c = at_in c.requires.limits c.requires.r_bound c.at-p.ensures
 
@@ -17,9 +14,6 @@ behind-k-requires-clause-along_bound c = rw c.next_axis-b.ensures (next_low _)
 
 pub behind-k-requires-clause-field_bound : goal.behind-k-requires-clause-field_bound
 behind-k-requires-clause-field_bound c = rw c.last_axis-c.ensures (last_low _)
-
-pub behind-requires-clause-limits : goal.behind-requires-clause-limits
-behind-requires-clause-limits c = c.requires.limits
 
 pub behind-requires-clause-inside : goal.behind-requires-clause-inside
 behind-requires-clause-inside c = at_in c.requires.limits c.requires.r_bound c.at-p.ensures

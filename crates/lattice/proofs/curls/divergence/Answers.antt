@@ -4,23 +4,14 @@ use Rattle.numbers.proofs.TermLaws.{wrote_append, wrote_most}
 use Rattle.lattice.proofs.RowLaws.{at_in, behind_most}
 use Rattle.lattice.proofs.curls.divergence.Goals as goal
 
-pub behind-k-requires-clause-limits : goal.behind-k-requires-clause-limits
-behind-k-requires-clause-limits c = c.requires.limits
-
 pub behind-k-requires-clause-inside : goal.behind-k-requires-clause-inside
 behind-k-requires-clause-inside c = at_in c.requires.limits c.requires.q_bound c.at-p.ensures
-
-pub behind-k1-requires-clause-limits : goal.behind-k1-requires-clause-limits
-behind-k1-requires-clause-limits c = c.requires.limits
 
 pub behind-k1-requires-clause-inside : goal.behind-k1-requires-clause-inside
 behind-k1-requires-clause-inside c = at_in c.requires.limits c.requires.q_bound c.at-p.ensures
 
 pub behind-k1-requires-clause-k_bound : goal.behind-k1-requires-clause-k_bound
 behind-k1-requires-clause-k_bound c = omega (arith, wrote_most c.behind-k.ensures (behind_most _ _ _ _ _))
-
-pub behind-requires-clause-limits : goal.behind-requires-clause-limits
-behind-requires-clause-limits c = c.requires.limits
 
 pub behind-requires-clause-inside : goal.behind-requires-clause-inside
 behind-requires-clause-inside c = at_in c.requires.limits c.requires.q_bound c.at-p.ensures

@@ -4,10 +4,6 @@ use Rattle.numbers.proofs.TermLaws.{wrote_append, wrote_most}
 use Rattle.lattice.proofs.RowLaws.{at_in, with_in, free_most, to_most}
 use Rattle.lattice.proofs.curls.gradient.Goals as goal
 
-pub half_weight-w-requires-clause-limits : goal.half_weight-w-requires-clause-limits
-half_weight-w-requires-clause-limits c = let i = at_in c.requires.limits c.requires.r_bound c.at-p.ensures in
-    c.requires.limits
-
 pub half_weight-w-requires-clause-inside : goal.half_weight-w-requires-clause-inside
 half_weight-w-requires-clause-inside c = let i = at_in c.requires.limits c.requires.r_bound c.at-p.ensures in
     i
@@ -16,14 +12,8 @@ pub half_weight-w-requires-clause-axis_bound : goal.half_weight-w-requires-claus
 half_weight-w-requires-clause-axis_bound c = let i = at_in c.requires.limits c.requires.r_bound c.at-p.ensures in
     i.c_in
 
-pub neighbour-to-requires-clause-limits : goal.neighbour-to-requires-clause-limits
-neighbour-to-requires-clause-limits c = c.requires.limits
-
 pub neighbour-to-requires-clause-inside : goal.neighbour-to-requires-clause-inside
 neighbour-to-requires-clause-inside c = with_in (at_in c.requires.limits c.requires.r_bound c.at-p.ensures) (omega arith) c.with_component.ensures
-
-pub push_free_here-requires-clause-limits : goal.push_free_here-requires-clause-limits
-push_free_here-requires-clause-limits c = c.requires.limits
 
 pub push_free_here-requires-clause-inside : goal.push_free_here-requires-clause-inside
 push_free_here-requires-clause-inside c = at_in c.requires.limits c.requires.r_bound c.at-p.ensures

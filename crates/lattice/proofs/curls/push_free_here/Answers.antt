@@ -4,9 +4,6 @@ use Rattle.numbers.proofs.TermLaws.{wrote_none}
 use Rattle.lattice.proofs.RowLaws.{with_in}
 use Rattle.lattice.proofs.curls.push_free_here.Goals as goal
 
-pub index-here-requires-clause-limits : goal.index-here-requires-clause-limits
-index-here-requires-clause-limits c = c.requires.limits
-
 pub index-here-requires-clause-inside : goal.index-here-requires-clause-inside
 index-here-requires-clause-inside c = with_in c.requires.inside (omega arith) c.with_component.ensures
 

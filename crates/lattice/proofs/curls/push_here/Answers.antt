@@ -2,9 +2,6 @@ use Rattle.lattice.specs.Curls.{term_here}
 use Rattle.lattice.proofs.RowLaws.{with_in}
 use Rattle.lattice.proofs.curls.push_here.Goals as goal
 
-pub index-here-requires-clause-limits : goal.index-here-requires-clause-limits
-index-here-requires-clause-limits c = c.requires.limits
-
 pub index-here-requires-clause-inside : goal.index-here-requires-clause-inside
 index-here-requires-clause-inside c = with_in c.requires.inside c.requires.component_bound c.with_component.ensures
 

@@ -1,10 +1,5 @@
 use Rattle.numbers.proofs.TermLaws.{wrote_none}
 use Rattle.lattice.proofs.curls.push_to.Goals as goal
 
-pub returns-in-Beyond : goal.returns-in-Beyond
-returns-in-Beyond c = rw c.in-Beyond.is wrote_none
-
-pub returns-in-To : goal.returns-in-To
-returns-in-To c =
-    rw (c.in-To.is, ← c.mul.ensures)
-    c.push.ensures
+pub returns-in_default : goal.returns-in_default
+returns-in_default c = rw c.in_default.is wrote_none

@@ -1,7 +1,7 @@
 use native.Mathlib.Omega.{arith}
-use mathlib.Core.Path.{◌≡◌, sym, ap, ◌∙◌, refl}
-use Rattle.lattice.specs.Line.{packed, ends_of, next_end}
-use Rattle.lattice.proofs.LineLaws.{next_is, length_ends, ends_at, coarser_none, joining_start, joining_next, joining_turn, joining_end}
+use mathlib.Core.Path.{sym, ap, ◌∙◌, refl}
+use Rattle.lattice.specs.Line.{packed, ends_of}
+use Rattle.lattice.proofs.LineLaws.{next_turn, length_ends, ends_at, coarser_none, joining_start, joining_next, joining_turn, joining_end}
 use Rattle.lattice.proofs.line.coarser.Goals as goal
 
 pub returns-then-n-lt4 : goal.returns-then-n-lt4
@@ -14,37 +14,25 @@ loop-m-init c =
     let l = c.args.l in
     (omega arith, joining_start (omega (arith, length_ends l c.requires)) (sym (ends_at l 0 (omega arith))))
 
-pub offset_bounds-x-a : goal.offset_bounds-x-a
-offset_bounds-x-a c = omega (arith, c.requires.low c.loop-m.m (omega arith))
-
-pub bounds-x-a : goal.bounds-x-a
-bounds-x-a c = c.requires.low c.loop-m.m (omega arith)
-
-pub offset_bounds-x-c : goal.offset_bounds-x-c
-offset_bounds-x-c c = omega (arith, c.requires.low c.second_behind-i.result (omega arith))
-
-pub bounds-x-c : goal.bounds-x-c
-bounds-x-c c = c.requires.low c.second_behind-i.result (omega arith)
-
 pub offset_bounds-l-m-in-loop-m : goal.offset_bounds-l-m-in-loop-m
 offset_bounds-l-m-in-loop-m c =
-    let turned : c.next_end-m.result ≡ next_end c.args.x c.args.target c.args.l c.loop-m.m = c.next_end-m.ensures ∙ next_is c.args.x c.args.target c.args.l c.loop-m.m c.second_behind-i.result c.second_behind-i.ensures in
-    omega (arith, (joining_next c.requires c.loop-m.invariant.1 c.loop-m-test.true (turned)).1)
+    let turned = next_turn _ _ _ _ c.second_behind-i.ensures c.next_end-m.ensures in
+    omega (arith, (joining_next c.requires c.loop-m.invariant.1 c.loop-m-test.true turned).1)
 
 pub bounds-l-m-in-loop-m : goal.bounds-l-m-in-loop-m
 bounds-l-m-in-loop-m c =
-    let turned : c.next_end-m.result ≡ next_end c.args.x c.args.target c.args.l c.loop-m.m = c.next_end-m.ensures ∙ next_is c.args.x c.args.target c.args.l c.loop-m.m c.second_behind-i.result c.second_behind-i.ensures in
-    omega (arith, (joining_next c.requires c.loop-m.invariant.1 c.loop-m-test.true (turned)).1)
+    let turned = next_turn _ _ _ _ c.second_behind-i.ensures c.next_end-m.ensures in
+    omega (arith, (joining_next c.requires c.loop-m.invariant.1 c.loop-m-test.true turned).1)
 
 pub loop-m-smaller : goal.loop-m-smaller
 loop-m-smaller c =
-    let turned : c.next_end-m.result ≡ next_end c.args.x c.args.target c.args.l c.loop-m.m = c.next_end-m.ensures ∙ next_is c.args.x c.args.target c.args.l c.loop-m.m c.second_behind-i.result c.second_behind-i.ensures in
-    omega (arith, (joining_next c.requires c.loop-m.invariant.1 c.loop-m-test.true (turned)).0)
+    let turned = next_turn _ _ _ _ c.second_behind-i.ensures c.next_end-m.ensures in
+    omega (arith, (joining_next c.requires c.loop-m.invariant.1 c.loop-m-test.true turned).0)
 
 pub loop-m-preserved : goal.loop-m-preserved
 loop-m-preserved c =
-    let turned : c.next_end-m.result ≡ next_end c.args.x c.args.target c.args.l c.loop-m.m = c.next_end-m.ensures ∙ next_is c.args.x c.args.target c.args.l c.loop-m.m c.second_behind-i.result c.second_behind-i.ensures in
-    ((joining_next c.requires c.loop-m.invariant.1 c.loop-m-test.true (turned)).1, joining_turn c.requires c.loop-m.invariant.1 c.loop-m-test.true (turned) refl)
+    let turned = next_turn _ _ _ _ c.second_behind-i.ensures c.next_end-m.ensures in
+    ((joining_next c.requires c.loop-m.invariant.1 c.loop-m-test.true turned).1, joining_turn c.requires c.loop-m.invariant.1 c.loop-m-test.true turned refl)
 
 pub returns : goal.returns
 returns c =

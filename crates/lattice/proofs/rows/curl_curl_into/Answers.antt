@@ -1,28 +1,22 @@
-use native.Mathlib.Omega.{arith}
-use Rattle.lattice.specs.Rows.{curl_curl}
-use Rattle.numbers.proofs.TermLaws.{read_back, low_below}
-use Rattle.lattice.proofs.RowLaws.{curl_h_most, low_curl_h}
+use Rattle.std.proofs.Common.{rules, sym, ◌≤◌, length, take, length-take, length-take-le, arith}
+use Rattle.lattice.specs.Lattice.{full_lattice}
+use Rattle.lattice.specs.Rows.{face_terms, curl_curl}
+use Rattle.lattice.proofs.RowLaws.{low_curl_h, face_terms_most, curl_h_held, terms_held, below_held}
 use Rattle.lattice.proofs.rows.curl_curl_into.Goals as goal
 
-pub push_faces-requires-clause-limits : goal.push_faces-requires-clause-limits
-push_faces-requires-clause-limits c = let e = read_back 4 c.curl_h-n.ensures (curl_h_most _ _) (omega arith) (omega arith) in
-    c.requires.limits
+pub slice_bounds-cs-end : goal.slice_bounds-cs-end
+slice_bounds-cs-end c = (curl_h_held _ _ c.curl_h-n.ensures).columns_room
 
-pub push_faces-requires-clause-n_in_bounds : goal.push_faces-requires-clause-n_in_bounds
-push_faces-requires-clause-n_in_bounds c = let e = read_back 4 c.curl_h-n.ensures (curl_h_most _ _) (omega arith) (omega arith) in
-    (e.columns_room, e.numbers_room)
+pub slice_bounds-push_each-end : goal.slice_bounds-push_each-end
+slice_bounds-push_each-end c = sym (length-take-le _ _ (curl_h_held _ _ c.curl_h-n.ensures).columns_room)
 
-pub push_faces-requires-clause-below : goal.push_faces-requires-clause-below
-push_faces-requires-clause-below c = let e = read_back 4 c.curl_h-n.ensures (curl_h_most _ _) (omega arith) (omega arith) in
-    low_below e (low_curl_h _ c.requires.limits _ c.requires.r_bound)
-
-pub push_faces-requires-clause-n_bound : goal.push_faces-requires-clause-n_bound
-push_faces-requires-clause-n_bound c = let e = read_back 4 c.curl_h-n.ensures (curl_h_most _ _) (omega arith) (omega arith) in
-    omega (arith, e.most)
+pub push_each-requires-clause-callable : goal.push_each-requires-clause-callable
+push_each-requires-clause-callable c =
+    let e = curl_h_held _ _ c.curl_h-n.ensures in
+    let few : length (take c.curl_h-n.result c.curl_h-n.new.columns) ≤ 4 = omega (arith, e.most, length-take c.curl_h-n.result c.curl_h-n.new.columns) in
+    let low = (below_held e (low_curl_h _ c.requires.limits _ c.requires.r_bound)).low in
+    (face_terms (full_lattice c.args.l c.args.st.now), 4, search rules, face_terms_most _, search rules)
 
 pub returns : goal.returns
 unfolding curl_curl
-returns c =
-    let e =
-    read_back 4 c.curl_h-n.ensures (curl_h_most _ _) (omega arith) (omega arith) in
-    rw (← e.terms) c.push_faces.ensures
+returns c = rw (← terms_held (curl_h_held _ _ c.curl_h-n.ensures)) (c.push_each.ensures _ (search rules))

@@ -1,24 +1,20 @@
-use native.Mathlib.Omega.{arith}
-use Rattle.lattice.specs.Rows.{face_terms}
-use Rattle.numbers.proofs.TermLaws.{read_back}
-use Rattle.lattice.proofs.RowLaws.{curl_e_most}
+use Rattle.std.proofs.Common.{rules, sym, length-take-le}
+use Rattle.lattice.specs.Lattice.{full_lattice}
+use Rattle.lattice.specs.Rows.{face_term, face_terms}
+use Rattle.lattice.proofs.RowLaws.{face_term_most, curl_e_held, terms_held}
 use Rattle.lattice.proofs.rows.face_terms.Goals as goal
 
-pub push_face_terms-requires-clause-limits : goal.push_face_terms-requires-clause-limits
-push_face_terms-requires-clause-limits c = let e = read_back 4 c.curl_e-n.ensures (curl_e_most _ _) (omega arith) (omega arith) in
-    c.requires.limits
+pub slice_bounds-cs-end : goal.slice_bounds-cs-end
+slice_bounds-cs-end c = (curl_e_held _ _ c.curl_e-n.ensures).columns_room
 
-pub push_face_terms-requires-clause-n_in_bounds : goal.push_face_terms-requires-clause-n_in_bounds
-push_face_terms-requires-clause-n_in_bounds c = let e = read_back 4 c.curl_e-n.ensures (curl_e_most _ _) (omega arith) (omega arith) in
-    (e.columns_room, e.numbers_room)
+pub slice_bounds-push_each-end : goal.slice_bounds-push_each-end
+slice_bounds-push_each-end c = sym (length-take-le _ _ (curl_e_held _ _ c.curl_e-n.ensures).columns_room)
 
-pub push_face_terms-requires-clause-n_bound : goal.push_face_terms-requires-clause-n_bound
-push_face_terms-requires-clause-n_bound c = let e = read_back 4 c.curl_e-n.ensures (curl_e_most _ _) (omega arith) (omega arith) in
-    omega (arith, e.most)
+pub push_each-requires-clause-callable : goal.push_each-requires-clause-callable
+push_each-requires-clause-callable c =
+    let few = (curl_e_held _ _ c.curl_e-n.ensures).most in
+    (face_term (full_lattice c.args.l c.args.st.now) c.args.wh, 1, search rules, face_term_most _ _, search rules)
 
 pub returns : goal.returns
 unfolding face_terms
-returns c =
-    let e =
-    read_back 4 c.curl_e-n.ensures (curl_e_most _ _) (omega arith) (omega arith) in
-    rw (← e.terms) c.push_face_terms.ensures
+returns c = rw (← terms_held (curl_e_held _ _ c.curl_e-n.ensures)) (c.push_each.ensures _ (search rules))

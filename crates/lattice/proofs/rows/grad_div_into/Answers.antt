@@ -1,32 +1,23 @@
-use native.Mathlib.Omega.{arith}
-use Rattle.lattice.specs.Rows.{grad_div}
-use Rattle.numbers.proofs.TermLaws.{read_back, low_below}
-use Rattle.lattice.proofs.RowLaws.{gradient_most, low_gradient}
+use Rattle.std.proofs.Common.{rules, sym, ◌≤◌, length, take, length-take, length-take-le, arith}
+use Rattle.lattice.specs.Lattice.{full_lattice}
+use Rattle.lattice.specs.Rows.{node_terms, grad_div}
+use Rattle.numbers.specs.Places.{number_at}
+use Rattle.lattice.proofs.RowLaws.{low_gradient, node_terms_most, gradient_held, terms_held, below_held}
 use Rattle.lattice.proofs.rows.grad_div_into.Goals as goal
 
-pub push_nodes-requires-clause-limits : goal.push_nodes-requires-clause-limits
-push_nodes-requires-clause-limits c = let e = read_back 2 c.gradient-n.ensures (gradient_most _ _) (omega arith) (omega arith) in
-    c.requires.limits
+pub slice_bounds-cs-end : goal.slice_bounds-cs-end
+slice_bounds-cs-end c = (gradient_held _ _ c.gradient-n.ensures).columns_room
 
-pub push_nodes-requires-clause-n_in_bounds : goal.push_nodes-requires-clause-n_in_bounds
-push_nodes-requires-clause-n_in_bounds c = let e = read_back 2 c.gradient-n.ensures (gradient_most _ _) (omega arith) (omega arith) in
-    (e.columns_room, e.numbers_room)
+pub slice_bounds-push_each-end : goal.slice_bounds-push_each-end
+slice_bounds-push_each-end c = sym (length-take-le _ _ (gradient_held _ _ c.gradient-n.ensures).columns_room)
 
-pub push_nodes-requires-clause-below : goal.push_nodes-requires-clause-below
-push_nodes-requires-clause-below c = let e = read_back 2 c.gradient-n.ensures (gradient_most _ _) (omega arith) (omega arith) in
-    low_below e (low_gradient _ c.requires.limits _ c.requires.r_bound)
-
-pub push_nodes-requires-clause-grid_in_bounds : goal.push_nodes-requires-clause-grid_in_bounds
-push_nodes-requires-clause-grid_in_bounds c = let e = read_back 2 c.gradient-n.ensures (gradient_most _ _) (omega arith) (omega arith) in
-    c.requires.grid_in_bounds
-
-pub push_nodes-requires-clause-n_bound : goal.push_nodes-requires-clause-n_bound
-push_nodes-requires-clause-n_bound c = let e = read_back 2 c.gradient-n.ensures (gradient_most _ _) (omega arith) (omega arith) in
-    omega (arith, e.most)
+pub push_each-requires-clause-callable : goal.push_each-requires-clause-callable
+push_each-requires-clause-callable c =
+    let e = gradient_held _ _ c.gradient-n.ensures in
+    let few : length (take c.gradient-n.result c.gradient-n.new.columns) ≤ 2 = omega (arith, e.most, length-take c.gradient-n.result c.gradient-n.new.columns) in
+    let low = (below_held e (low_gradient _ c.requires.limits _ c.requires.r_bound)).low in
+    (node_terms (full_lattice c.args.l c.args.st.now) (number_at c.args.eps.now), 6, search rules, node_terms_most _ _, search rules)
 
 pub returns : goal.returns
 unfolding grad_div
-returns c =
-    let e =
-    read_back 2 c.gradient-n.ensures (gradient_most _ _) (omega arith) (omega arith) in
-    rw (← e.terms) c.push_nodes.ensures
+returns c = rw (← terms_held (gradient_held _ _ c.gradient-n.ensures)) (c.push_each.ensures _ (search rules))

@@ -1,50 +1,29 @@
-use native.Mathlib.Omega.{arith}
 use mathlib.Core.Path.{◌∙◌}
-use Rattle.lattice.specs.Rows.{node_terms}
-use Rattle.numbers.proofs.TermLaws.{read_back, low_below}
-use Rattle.lattice.proofs.RowLaws.{divergence_most, low_divergence, mean_held}
+use Rattle.std.proofs.Common.{rules, sym, ◌≤◌, length, take, length-take, length-take-le, arith}
+use Rattle.lattice.specs.Lattice.{full_lattice}
+use Rattle.lattice.specs.Rows.{node_term, node_terms}
+use Rattle.numbers.specs.Places.{number_at}
+use Rattle.lattice.proofs.RowLaws.{low_divergence, mean_held, node_term_most, divergence_held, below_held, terms_held}
 use Rattle.lattice.proofs.rows.node_terms.Goals as goal
 
-pub mean_free-requires-clause-limits : goal.mean_free-requires-clause-limits
-mean_free-requires-clause-limits c = let e = read_back 6 c.divergence-n.ensures (divergence_most _ _) (omega arith) (omega arith) in
-    c.requires.limits
+pub slice_bounds-cs-end : goal.slice_bounds-cs-end
+slice_bounds-cs-end c = (divergence_held _ _ c.divergence-n.ensures).columns_room
 
-pub mean_free-requires-clause-n_in_bounds : goal.mean_free-requires-clause-n_in_bounds
-mean_free-requires-clause-n_in_bounds c = let e = read_back 6 c.divergence-n.ensures (divergence_most _ _) (omega arith) (omega arith) in
-    (e.columns_room, omega (arith, e.most))
+pub slice_bounds-edges-end : goal.slice_bounds-edges-end
+slice_bounds-edges-end c = sym (length-take-le _ _ (divergence_held _ _ c.divergence-n.ensures).columns_room)
 
 pub mean_free-requires-clause-below : goal.mean_free-requires-clause-below
-mean_free-requires-clause-below c = let e = read_back 6 c.divergence-n.ensures (divergence_most _ _) (omega arith) (omega arith) in
-    low_below e (low_divergence _ c.requires.limits _ c.requires.q_bound)
+mean_free-requires-clause-below c = below_held (divergence_held _ _ c.divergence-n.ensures) (low_divergence _ c.requires.limits _ c.requires.q_bound)
 
-pub mean_free-requires-clause-grid_in_bounds : goal.mean_free-requires-clause-grid_in_bounds
-mean_free-requires-clause-grid_in_bounds c = let e = read_back 6 c.divergence-n.ensures (divergence_most _ _) (omega arith) (omega arith) in
-    c.requires.grid_in_bounds
-
-pub push_node_terms-requires-clause-limits : goal.push_node_terms-requires-clause-limits
-push_node_terms-requires-clause-limits c = let e = read_back 6 c.divergence-n.ensures (divergence_most _ _) (omega arith) (omega arith) in
-    c.requires.limits
-
-pub push_node_terms-requires-clause-n_in_bounds : goal.push_node_terms-requires-clause-n_in_bounds
-push_node_terms-requires-clause-n_in_bounds c = let e = read_back 6 c.divergence-n.ensures (divergence_most _ _) (omega arith) (omega arith) in
-    (e.columns_room, e.numbers_room)
-
-pub push_node_terms-requires-clause-below : goal.push_node_terms-requires-clause-below
-push_node_terms-requires-clause-below c = let e = read_back 6 c.divergence-n.ensures (divergence_most _ _) (omega arith) (omega arith) in
-    low_below e (low_divergence _ c.requires.limits _ c.requires.q_bound)
-
-pub push_node_terms-requires-clause-n_bound : goal.push_node_terms-requires-clause-n_bound
-push_node_terms-requires-clause-n_bound c = let e = read_back 6 c.divergence-n.ensures (divergence_most _ _) (omega arith) (omega arith) in
-    omega (arith, e.most)
+pub push_each-requires-clause-callable : goal.push_each-requires-clause-callable
+push_each-requires-clause-callable c =
+    let e = divergence_held _ _ c.divergence-n.ensures in
+    let few : length (take c.divergence-n.result c.divergence-n.new.columns) ≤ 6 = omega (arith, e.most, length-take c.divergence-n.result c.divergence-n.new.columns) in
+    let low = (below_held e (low_divergence _ c.requires.limits _ c.requires.q_bound)).low in
+    (node_term (full_lattice c.args.l c.args.st.now) (number_at c.args.eps.now) c.args.wg c.div-inverse.result, 1, search rules, node_term_most _ _ _ _, search rules)
 
 pub returns : goal.returns
 unfolding node_terms
 returns c =
-    let e =
-    read_back 6 c.divergence-n.ensures (divergence_most _ _)
-    (omega arith) (omega arith) in
-    rw (
-      ← (c.mean_free.ensures ∙ mean_held _ _ _ e),
-      ← c.real_over-inverse.ensures,
-      ← e.terms,
-    ) c.push_node_terms.ensures
+    let e = divergence_held _ _ c.divergence-n.ensures in
+    rw (← (c.mean_free.ensures ∙ mean_held _ _ _ e), ← c.div-inverse.ensures, ← terms_held e) (c.push_each.ensures _ (search rules))

@@ -13,10 +13,10 @@ returns c =
     rw (
       ← c.fixed.ensures,
       c.if-fixed.false,
-      ← c.real_times.ensures,
+      ← c.mul.ensures,
       ← c.mul-w.ensures,
       ← c.get.ensures,
-      ← c.mul.ensures,
+      ← c.mul-2.ensures,
       ← c.mul-v.ensures,
     )
     c.push.ensures

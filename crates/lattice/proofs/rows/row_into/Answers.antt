@@ -13,12 +13,6 @@ returns-then-fixed c =
       ← c.one.ensures,
     ) c.push.ensures
 
-pub grad_div_into-requires-clause-limits : goal.grad_div_into-requires-clause-limits
-grad_div_into-requires-clause-limits c = c.requires.limits
-
-pub grad_div_into-requires-clause-r_bound : goal.grad_div_into-requires-clause-r_bound
-grad_div_into-requires-clause-r_bound c = c.requires.r_bound
-
 pub grad_div_into-requires-clause-k_bound : goal.grad_div_into-requires-clause-k_bound
 grad_div_into-requires-clause-k_bound c = omega (
   arith,
@@ -33,7 +27,7 @@ returns c =
       ← c.fixed.ensures,
       c.if-fixed.false,
       ← c.get.ensures,
-      ← c.real_times-d.ensures,
+      ← c.mul-d.ensures,
     )
     (wrote_append
     c.push-k.ensures

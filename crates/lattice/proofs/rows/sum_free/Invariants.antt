@@ -3,5 +3,5 @@ use Rattle.numbers.specs.Places.{number_at}
 use Rattle.lattice.proofs.RowLaws.{Summing}
 use Rattle.lattice.proofs.rows.sum_free.Given as goal
 
-abbrev pub invariant-loop-m : goal.invariant-loop-m
-invariant-loop-m l = Summing (full_lattice l.l l.st) (number_at l.eps) l.cs l.n l.total l.count l.m
+abbrev pub invariant-loop-c : goal.invariant-loop-c
+invariant-loop-c l = Summing (full_lattice l.l l.st) (number_at l.eps) l.cs l.total l.count l.c-index

@@ -1,25 +1,18 @@
+use Prim.Native.Nat.{◌≤◌}
 use native.Mathlib.Omega.{arith}
-use Rattle.lattice.specs.Stretched.{across_stretch, across_map}
-use Rattle.lattice.proofs.MapLaws.{mapping_start, mapping_turn, mapping_end}
+use Rattle.std.proofs.Common.{rules}
+use Rattle.lattice.specs.Stretched.{across_map}
 use Rattle.lattice.proofs.GridLaws.{n_most}
 use Rattle.lattice.proofs.stretched.across_map.Goals as goal
 
-pub overflow_mul-p-end : goal.overflow_mul-p-end
-overflow_mul-p-end c = omega (arith, c.n-n.ensures, n_most c.requires.limits c.args.axis)
+pub map_by-requires-clause-n_bound : goal.map_by-requires-clause-n_bound
+map_by-requires-clause-n_bound c = omega (arith, c.n.ensures, n_most c.requires.limits c.args.axis)
 
-pub loop-p-init : goal.loop-p-init
-loop-p-init c = (omega (arith, c.n-n.ensures, n_most c.requires.limits c.args.axis), omega arith, mapping_start c.zero-x.ensures c.zero-here.ensures)
-
-pub loop-p-preserved : goal.loop-p-preserved
-unfolding across_stretch
-loop-p-preserved c = (
-  omega arith,
-  omega arith,
-  mapping_turn c.loop-p.invariant.2 (omega arith)
-      (rw (← c.half.ensures) c.real_times.ensures)
-      c.add-here.ensures,
-)
+pub map_by-requires-clause-callable : goal.map_by-requires-clause-callable
+map_by-requires-clause-callable c =
+    let e : c.n.result ≤ 64 = omega (arith, c.n.ensures, n_most c.requires.limits c.args.axis) in
+    search rules
 
 pub returns : goal.returns
 unfolding across_map
-returns c = mapping_end c.loop-p.invariant.2 (omega (arith, c.n-n.ensures)) (n_most c.requires.limits c.args.axis)
+returns c = rw (← c.n.ensures) (c.map_by.ensures _ (search rules))

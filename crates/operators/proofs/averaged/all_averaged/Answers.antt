@@ -4,17 +4,8 @@ use Rattle.weights.proofs.EpsLaws.{chaining_start, chaining_end}
 use Rattle.operators.proofs.AverageLaws.{averaging_turn, ready_at}
 use Rattle.operators.proofs.averaged.all_averaged.Goals as goal
 
-pub unknowns-n-requires : goal.unknowns-n-requires
-unknowns-n-requires c = c.requires.limits.1
-
 pub loop-r-init : goal.loop-r-init
 loop-r-init c = chaining_start
-
-pub at-requires : goal.at-requires
-at-requires c = c.requires.limits.1
-
-pub averaged_eps_at-v-requires-clause-limits : goal.averaged_eps_at-v-requires-clause-limits
-averaged_eps_at-v-requires-clause-limits c = c.requires.limits.0
 
 pub averaged_eps_at-v-requires-clause-average_ready :
     goal.averaged_eps_at-v-requires-clause-average_ready
@@ -27,7 +18,7 @@ overflow_add-to c =
 
 pub loop-r-preserved : goal.loop-r-preserved
 loop-r-preserved c =
-    averaging_turn c.requires.limits.0 c.requires.limits.1 c.requires.averages_ready c.requires.chain_room c.loop-r.invariant c.loop-r-test.true c.unknowns-n.ensures
+    averaging_turn c.requires.limits.1 c.requires.averages_ready c.requires.chain_room c.loop-r.invariant c.loop-r-test.true c.unknowns-n.ensures
     c.at.ensures
     c.averaged_eps_at-v.ensures c.put.ensures
 

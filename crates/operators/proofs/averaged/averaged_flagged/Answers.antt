@@ -1,56 +1,26 @@
 -- `operators::averaged::averaged_flagged` meets its contract.
 -- Assumes nothing.
 use native.Mathlib.Omega.{arith}
-use Rattle.operators.proofs.AveragedRow.{coarse_limits, edge, edge_inside, edge_limits, edge_long, edge_unknowns, edge_place, edge_cell, edge_fit, edge_flagged}
+use Rattle.operators.proofs.AveragedRow.{coarse_limits, edge, edge_inside, edge_ready, next_below, last_below, cell_unknowns, edge_flagged}
 use Rattle.operators.proofs.averaged.averaged_flagged.Goals as goal
 
 pub at-p-requires : goal.at-p-requires
 at-p-requires c = coarse_limits c.requires.paired_lines c.grid_of.ensures
 
-pub hats_across-k-requires-clause-paired_lines : goal.hats_across-k-requires-clause-paired_lines
-hats_across-k-requires-clause-paired_lines c = c.requires.paired_lines
-
-pub hats_across-k-requires-clause-nn_value : goal.hats_across-k-requires-clause-nn_value
-hats_across-k-requires-clause-nn_value c = c.requires.nn_value
-
 pub hats_across-k-requires-clause-inside : goal.hats_across-k-requires-clause-inside
 hats_across-k-requires-clause-inside c = edge_inside (edge c.requires.paired_lines c.grid_of.ensures c.requires.nn_value c.grid_of-gf.ensures c.at-p.ensures c.requires.r_bound)
 
-pub overflow_mul-m : goal.overflow_mul-m
-overflow_mul-m c = omega (arith, (edge_inside (edge c.requires.paired_lines c.grid_of.ensures c.requires.nn_value c.grid_of-gf.ensures c.at-p.ensures c.requires.r_bound)).c_in)
+pub cell_of-c-requires : goal.cell_of-c-requires
+cell_of-c-requires c = edge_ready (edge c.requires.paired_lines c.grid_of.ensures c.requires.nn_value c.grid_of-gf.ensures c.at-p.ensures c.requires.r_bound)
 
-pub overflow_add-m : goal.overflow_add-m
-overflow_add-m c = omega (arith, edge_place (edge c.requires.paired_lines c.grid_of.ensures c.requires.nn_value c.grid_of-gf.ensures c.at-p.ensures c.requires.r_bound) c.place_on.ensures, edge_long (edge c.requires.paired_lines c.grid_of.ensures c.requires.nn_value c.grid_of-gf.ensures c.at-p.ensures c.requires.r_bound))
+pub any_over-requires-clause-flags_in_bounds : goal.any_over-requires-clause-flags_in_bounds
+any_over-requires-clause-flags_in_bounds c = omega (arith, cell_unknowns (edge c.requires.paired_lines c.grid_of.ensures c.requires.nn_value c.grid_of-gf.ensures c.at-p.ensures c.requires.r_bound) c.cell_of-c.ensures.1, c.requires.coarse_in_bounds)
 
-pub offset_bounds-nn-m : goal.offset_bounds-nn-m
-offset_bounds-nn-m c = omega (arith, edge_place (edge c.requires.paired_lines c.grid_of.ensures c.requires.nn_value c.grid_of-gf.ensures c.at-p.ensures c.requires.r_bound) c.place_on.ensures, edge_long (edge c.requires.paired_lines c.grid_of.ensures c.requires.nn_value c.grid_of-gf.ensures c.at-p.ensures c.requires.r_bound))
+pub any_over-requires-clause-next_below : goal.any_over-requires-clause-next_below
+any_over-requires-clause-next_below c = next_below (edge c.requires.paired_lines c.grid_of.ensures c.requires.nn_value c.grid_of-gf.ensures c.at-p.ensures c.requires.r_bound) c.cell_of-c.ensures.1 c.hats_across-k.ensures
 
-pub bounds-nn-m : goal.bounds-nn-m
-bounds-nn-m c = omega (arith, edge_place (edge c.requires.paired_lines c.grid_of.ensures c.requires.nn_value c.grid_of-gf.ensures c.at-p.ensures c.requires.r_bound) c.place_on.ensures, edge_long (edge c.requires.paired_lines c.grid_of.ensures c.requires.nn_value c.grid_of-gf.ensures c.at-p.ensures c.requires.r_bound))
-
-pub overflow_add-m-2 : goal.overflow_add-m-2
-overflow_add-m-2 c = omega (arith, edge_place (edge c.requires.paired_lines c.grid_of.ensures c.requires.nn_value c.grid_of-gf.ensures c.at-p.ensures c.requires.r_bound) c.place_on.ensures, edge_long (edge c.requires.paired_lines c.grid_of.ensures c.requires.nn_value c.grid_of-gf.ensures c.at-p.ensures c.requires.r_bound))
-
-pub offset_bounds-nn-m-2 : goal.offset_bounds-nn-m-2
-offset_bounds-nn-m-2 c = omega (arith, edge_place (edge c.requires.paired_lines c.grid_of.ensures c.requires.nn_value c.grid_of-gf.ensures c.at-p.ensures c.requires.r_bound) c.place_on.ensures, edge_long (edge c.requires.paired_lines c.grid_of.ensures c.requires.nn_value c.grid_of-gf.ensures c.at-p.ensures c.requires.r_bound))
-
-pub bounds-nn-m-2 : goal.bounds-nn-m-2
-bounds-nn-m-2 c = omega (arith, edge_place (edge c.requires.paired_lines c.grid_of.ensures c.requires.nn_value c.grid_of-gf.ensures c.at-p.ensures c.requires.r_bound) c.place_on.ensures, edge_long (edge c.requires.paired_lines c.grid_of.ensures c.requires.nn_value c.grid_of-gf.ensures c.at-p.ensures c.requires.r_bound))
-
-pub all_flagged-requires-clause-limits : goal.all_flagged-requires-clause-limits
-all_flagged-requires-clause-limits c = edge_limits (edge c.requires.paired_lines c.grid_of.ensures c.requires.nn_value c.grid_of-gf.ensures c.at-p.ensures c.requires.r_bound)
-
-pub all_flagged-requires-clause-gf_in_bounds : goal.all_flagged-requires-clause-gf_in_bounds
-all_flagged-requires-clause-gf_in_bounds c = omega (arith, edge_unknowns (edge c.requires.paired_lines c.grid_of.ensures c.requires.nn_value c.grid_of-gf.ensures c.at-p.ensures c.requires.r_bound), c.requires.coarse_in_bounds)
-
-pub all_flagged-requires-clause-component_bound : goal.all_flagged-requires-clause-component_bound
-all_flagged-requires-clause-component_bound c = edge_cell (edge c.requires.paired_lines c.grid_of.ensures c.requires.nn_value c.grid_of-gf.ensures c.at-p.ensures c.requires.r_bound) c.place_on.ensures
-
-pub all_flagged-requires-clause-hats_fit : goal.all_flagged-requires-clause-hats_fit
-all_flagged-requires-clause-hats_fit c = (edge_fit (edge c.requires.paired_lines c.grid_of.ensures c.requires.nn_value c.grid_of-gf.ensures c.at-p.ensures c.requires.r_bound) c.place_on.ensures c.hats_across-k.ensures).0
-
-pub all_flagged-requires-clause-hats_fit_2 : goal.all_flagged-requires-clause-hats_fit_2
-all_flagged-requires-clause-hats_fit_2 c = (edge_fit (edge c.requires.paired_lines c.grid_of.ensures c.requires.nn_value c.grid_of-gf.ensures c.at-p.ensures c.requires.r_bound) c.place_on.ensures c.hats_across-k.ensures).1
+pub any_over-requires-clause-last_below : goal.any_over-requires-clause-last_below
+any_over-requires-clause-last_below c = last_below (edge c.requires.paired_lines c.grid_of.ensures c.requires.nn_value c.grid_of-gf.ensures c.at-p.ensures c.requires.r_bound) c.cell_of-c.ensures.1 c.hats_across-k.ensures
 
 pub returns : goal.returns
-returns c = edge_flagged (edge c.requires.paired_lines c.grid_of.ensures c.requires.nn_value c.grid_of-gf.ensures c.at-p.ensures c.requires.r_bound) c.place_on.ensures c.hats_across-k.ensures _ c.all_flagged.ensures
+returns c = edge_flagged (edge c.requires.paired_lines c.grid_of.ensures c.requires.nn_value c.grid_of-gf.ensures c.at-p.ensures c.requires.r_bound) c.cell_of-c.ensures.1 c.hats_across-k.ensures _ c.any_over.ensures

@@ -7,15 +7,6 @@ use Rattle.numbers.specs.Complex.{finite}
 use Rattle.numbers.specs.Places.{set_number}
 use Rattle.operators.proofs.averaged.averaged_row.Goals as goal
 
-pub averaged_edge-v-requires-clause-nn_value : goal.averaged_edge-v-requires-clause-nn_value
-averaged_edge-v-requires-clause-nn_value c = c.requires.nn_value
-
-pub averaged_edge-v-requires-clause-r_bound : goal.averaged_edge-v-requires-clause-r_bound
-averaged_edge-v-requires-clause-r_bound c = c.requires.r_bound
-
-pub averaged_edge-v-requires-clause-from_bound : goal.averaged_edge-v-requires-clause-from_bound
-averaged_edge-v-requires-clause-from_bound c = (omega (arith, c.requires.chain_room.apart, c.requires.chain_room.low), omega (arith, c.requires.chain_room.apart, c.requires.chain_room.room))
-
 pub overflow_add-to : goal.overflow_add-to
 overflow_add-to c = omega (arith, unknowns_most c.requires.paired_lines.paired.coarse_limits, c.requires.r_bound, c.requires.chain_room.low)
 

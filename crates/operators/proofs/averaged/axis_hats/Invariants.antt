@@ -6,4 +6,4 @@ use Rattle.operators.specs.Averaged.{AxisHats}
 use Rattle.operators.proofs.averaged.axis_hats.Given as goal
 
 abbrev pub invariant-loop-m : goal.invariant-loop-m
-invariant-loop-m l = (l.m ≤ l.c.cells) × AxisHats l.wall (ends_of l.f) (ends_of l.c) l.axis l.m l.initial.nodes l.initial.weights l.initial.counts l.nodes l.weights l.counts
+invariant-loop-m l = (l.m ≤ l.c.cells) × AxisHats l.wall (ends_of l.f) (ends_of l.c) l.axis l.m l.initial.hats l.initial.counts l.hats l.counts

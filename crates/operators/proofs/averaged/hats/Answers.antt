@@ -3,24 +3,12 @@
 use Rattle.operators.proofs.HatLaws.{axis_long, hats_three}
 use Rattle.operators.proofs.averaged.hats.Goals as goal
 
-pub axis_hats-requires-clause-line_pair : goal.axis_hats-requires-clause-line_pair
-axis_hats-requires-clause-line_pair c = c.requires.paired_lines.x_pair
+pub axis_hats-requires-2-clause-hats_len : goal.axis_hats-requires-2-clause-hats_len
+axis_hats-requires-2-clause-hats_len c = axis_long c.axis_hats.ensures c.requires.hats_len
 
-pub axis_hats-requires-clause-nodes_len : goal.axis_hats-requires-clause-nodes_len
-axis_hats-requires-clause-nodes_len c = c.requires.nodes_len
-
-pub axis_hats-requires-2-clause-line_pair : goal.axis_hats-requires-2-clause-line_pair
-axis_hats-requires-2-clause-line_pair c = c.requires.paired_lines.y_pair
-
-pub axis_hats-requires-2-clause-nodes_len : goal.axis_hats-requires-2-clause-nodes_len
-axis_hats-requires-2-clause-nodes_len c = axis_long c.axis_hats.ensures c.requires.nodes_len
-
-pub axis_hats-requires-3-clause-line_pair : goal.axis_hats-requires-3-clause-line_pair
-axis_hats-requires-3-clause-line_pair c = c.requires.paired_lines.z_pair
-
-pub axis_hats-requires-3-clause-nodes_len : goal.axis_hats-requires-3-clause-nodes_len
-axis_hats-requires-3-clause-nodes_len c = axis_long c.axis_hats-2.ensures (axis_long c.axis_hats.ensures c.requires.nodes_len)
+pub axis_hats-requires-3-clause-hats_len : goal.axis_hats-requires-3-clause-hats_len
+axis_hats-requires-3-clause-hats_len c = axis_long c.axis_hats-2.ensures (axis_long c.axis_hats.ensures c.requires.hats_len)
 
 pub returns : goal.returns
 returns c =
-    hats_three c.requires.paired_lines c.requires.nodes_len c.is_wall-wx.ensures c.is_wall-wy.ensures c.is_wall-wz.ensures c.axis_hats.ensures c.axis_hats-2.ensures c.axis_hats-3.ensures
+    hats_three c.requires.paired_lines c.requires.hats_len c.is_wall-wx.ensures c.is_wall-wy.ensures c.is_wall-wz.ensures c.axis_hats.ensures c.axis_hats-2.ensures c.axis_hats-3.ensures

@@ -5,4 +5,4 @@ use Rattle.numbers.proofs.ElementLaws.{Looking, single}
 use Rattle.operators.proofs.averaged.line_flagged.Given as goal
 
 abbrev pub invariant-loop-m : goal.invariant-loop-m
-invariant-loop-m l = Looking l.flags single (edge_along l.gf l.q) l.first l.last l.m
+invariant-loop-m l = Looking l.flags single (edge_along l.c.grid l.q) l.c.first l.c.last l.m

@@ -6,47 +6,14 @@ use native.Mathlib.Omega.{arith}
 use Rattle.operators.proofs.HatLaws.{width_most, number_below, number_most, lower_next, upper_place, around_laid}
 use Rattle.operators.proofs.averaged.push_around.Goals as goal
 
-pub push_lower-k-requires-clause-line_pair : goal.push_lower-k-requires-clause-line_pair
-push_lower-k-requires-clause-line_pair c = c.requires.line_pair
-
-pub push_lower-k-requires-clause-nodes_from : goal.push_lower-k-requires-clause-nodes_from
-push_lower-k-requires-clause-nodes_from c = c.requires.nodes_from
-
-pub push_lower-k-requires-clause-m_lt_cells : goal.push_lower-k-requires-clause-m_lt_cells
-push_lower-k-requires-clause-m_lt_cells c = (c.requires.m_lt_cells.0, omega arith)
-
-pub overflow_add-own : goal.overflow_add-own
-overflow_add-own c = omega (arith, c.requires.nodes_from.room)
-
-pub bounds-nn-o : goal.bounds-nn-o
-bounds-nn-o c = omega (arith, c.requires.nodes_from.room)
-
 pub push_hat-k1-requires : goal.push_hat-k1-requires
 push_hat-k1-requires c = omega (arith, lower_next c.requires.line_pair c.args.wall c.args.m c.requires.m_lt_cells.0 c.push_lower-k.ensures)
 
 pub overflow_sub-c : goal.overflow_sub-c
 overflow_sub-c c = (width_most c.requires.line_pair c.args.m (c.args.m + 1) (omega arith) (omega arith)).0
 
-pub overflow_add-o : goal.overflow_add-o
-overflow_add-o c = omega (arith, c.requires.nodes_from.room)
-
-pub bounds-nn-o-2 : goal.bounds-nn-o-2
-bounds-nn-o-2 c = omega (arith, c.requires.nodes_from.room)
-
 pub overflow_add-nn : goal.overflow_add-nn
 overflow_add-nn c = omega (arith, c.requires.line_pair.fine_held.most, number_below c.requires.line_pair c.requires.nodes_from c.args.m refl c.requires.m_lt_cells.0)
-
-pub overflow_add-o-2 : goal.overflow_add-o-2
-overflow_add-o-2 c = omega (arith, c.requires.nodes_from.room)
-
-pub overflow_add-o-3 : goal.overflow_add-o-3
-overflow_add-o-3 c = omega (arith, c.requires.nodes_from.room)
-
-pub bounds-nn-o-3 : goal.bounds-nn-o-3
-bounds-nn-o-3 c = omega (arith, c.requires.nodes_from.room)
-
-pub push_upper-requires-clause-held : goal.push_upper-requires-clause-held
-push_upper-requires-clause-held c = c.requires.line_pair.fine_held
 
 pub push_upper-requires-clause-last_le_cells : goal.push_upper-requires-clause-last_le_cells
 push_upper-requires-clause-last_le_cells c = (

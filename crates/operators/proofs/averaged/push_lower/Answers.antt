@@ -11,27 +11,12 @@ returns-then-wall c = lower_wall c.requires.line_pair c.args.wall c.args.m c.if-
 pub overflow_sub-at : goal.overflow_sub-at
 overflow_sub-at c = (width_most c.requires.line_pair (c.args.c.cells - 1) c.args.c.cells (omega (arith, c.requires.line_pair.coarse_held.some)) (omega arith)).0
 
-pub overflow_add-o : goal.overflow_add-o
-overflow_add-o c = omega (arith, c.requires.nodes_from.room)
-
-pub overflow_sub-o : goal.overflow_sub-o
-overflow_sub-o c = omega (arith, c.requires.line_pair.coarse_held.some)
-
-pub bounds-nn-o : goal.bounds-nn-o
-bounds-nn-o c = omega (arith, c.requires.nodes_from.room)
-
 pub overflow_add-nn : goal.overflow_add-nn
 overflow_add-nn c =
     omega (arith, c.requires.line_pair.fine_held.most, c.requires.line_pair.coarse_held.some, number_below c.requires.line_pair c.requires.nodes_from (c.args.c.cells - 1) {i = c.args.o + c.args.c.cells - 1} (omega (arith, c.requires.line_pair.coarse_held.some)) (omega (arith, c.requires.line_pair.coarse_held.some)))
 
-pub walk_lower-requires-clause-held : goal.walk_lower-requires-clause-held
-walk_lower-requires-clause-held c = c.requires.line_pair.fine_held
-
 pub walk_lower-requires-clause-le_first : goal.walk_lower-requires-clause-le_first
 walk_lower-requires-clause-le_first c = walk_ready c.requires.line_pair c.requires.nodes_from (c.args.c.cells - 1) c.args.c.cells (omega (arith, c.requires.line_pair.coarse_held.some)) (omega (arith, c.requires.line_pair.coarse_held.some)) (omega arith)
-
-pub walk_lower-requires-clause-from_bound : goal.walk_lower-requires-clause-from_bound
-walk_lower-requires-clause-from_bound c = c.requires.m_lt_cells.1
 
 pub returns-then-m-eq0 : goal.returns-then-m-eq0
 returns-then-m-eq0 c =
@@ -40,24 +25,12 @@ returns-then-m-eq0 c =
 pub overflow_sub-at-2 : goal.overflow_sub-at-2
 overflow_sub-at-2 c = (width_most c.requires.line_pair (c.args.m - 1) c.args.m (omega arith) (omega arith)).0
 
-pub overflow_add-o-2 : goal.overflow_add-o-2
-overflow_add-o-2 c = omega (arith, c.requires.nodes_from.room)
-
-pub bounds-nn-o-2 : goal.bounds-nn-o-2
-bounds-nn-o-2 c = omega (arith, c.requires.nodes_from.room)
-
 pub overflow_add-nn-2 : goal.overflow_add-nn-2
 overflow_add-nn-2 c =
     omega (arith, c.requires.line_pair.fine_held.most, number_below c.requires.line_pair c.requires.nodes_from (c.args.m - 1) {i = c.args.o + c.args.m - 1} (omega arith) (omega arith))
 
-pub walk_lower-requires-2-clause-held : goal.walk_lower-requires-2-clause-held
-walk_lower-requires-2-clause-held c = c.requires.line_pair.fine_held
-
 pub walk_lower-requires-2-clause-le_first : goal.walk_lower-requires-2-clause-le_first
 walk_lower-requires-2-clause-le_first c = walk_ready c.requires.line_pair c.requires.nodes_from (c.args.m - 1) c.args.m (omega arith) (omega arith) (omega arith)
-
-pub walk_lower-requires-2-clause-from_bound : goal.walk_lower-requires-2-clause-from_bound
-walk_lower-requires-2-clause-from_bound c = c.requires.m_lt_cells.1
 
 pub returns : goal.returns
 returns c =

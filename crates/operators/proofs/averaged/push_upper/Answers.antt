@@ -1,17 +1,8 @@
-use native.Mathlib.Omega.{arith}
 use Rattle.operators.proofs.HatLaws.{climbing_start, climbing_turn, climbing_end}
 use Rattle.operators.proofs.averaged.push_upper.Goals as goal
 
 pub loop-q-init : goal.loop-q-init
 loop-q-init c = climbing_start
-
-pub overflow_sub-f : goal.overflow_sub-f
-overflow_sub-f c =
-    c.requires.by_index c.loop-q.q c.loop-q.invariant.begun c.loop-q-test.true
-
-pub hat_weight-requires : goal.hat_weight-requires
-hat_weight-requires c =
-    (omega (arith, c.requires.held.low c.loop-q.q (omega arith)), c.requires.last_le_cells.1)
 
 pub loop-q-preserved : goal.loop-q-preserved
 loop-q-preserved c =

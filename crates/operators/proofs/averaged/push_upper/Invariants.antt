@@ -4,4 +4,4 @@ use Rattle.operators.proofs.HatLaws.{Climbing}
 use Rattle.operators.proofs.averaged.push_upper.Given as goal
 
 abbrev pub invariant-loop-q : goal.invariant-loop-q
-invariant-loop-q l = Climbing l.f l.at l.width l.first l.last l.initial.nodes l.initial.weights l.from l.nodes l.weights l.k l.q
+invariant-loop-q l = Climbing l.f l.at l.width l.first l.last l.initial.hats l.from l.hats l.k l.q

@@ -5,16 +5,6 @@ use Rattle.operators.proofs.averaged.walk_lower.Goals as goal
 pub loop-f-init : goal.loop-f-init
 loop-f-init c = walking_start c.requires.le_first.1
 
-pub wrapped_place-place-requires : goal.wrapped_place-place-requires
-wrapped_place-place-requires c = c.requires.held
-
-pub nonzero_rem-h : goal.nonzero_rem-h
-nonzero_rem-h c = c.requires.held.some
-
-pub hat_weight-requires : goal.hat_weight-requires
-hat_weight-requires c =
-    (omega (arith, c.requires.held.low c.args.f.cells (omega arith)), c.requires.le_first.3)
-
 pub loop-f-smaller : goal.loop-f-smaller
 loop-f-smaller c =
     omega (arith, wrapped_before c.requires.held c.args.at c.loop-f.q c.requires.le_first.2 (rw (← c.wrapped_place-place.ensures) c.if-place-at.false))

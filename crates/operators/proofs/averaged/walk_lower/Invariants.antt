@@ -5,7 +5,7 @@ use Rattle.operators.proofs.HatLaws.{Walking}
 use Rattle.operators.proofs.averaged.walk_lower.Given as goal
 
 abbrev pub invariant-loop-f : goal.invariant-loop-f
-invariant-loop-f l = Walking l.f l.at l.width l.first l.initial.nodes l.initial.weights l.from l.nodes l.weights l.k l.q
+invariant-loop-f l = Walking l.f l.at l.width l.first l.initial.hats l.from l.hats l.k l.q
 
 abbrev pub decreases-loop-f : goal.decreases-loop-f
 decreases-loop-f l = l.f.cells - l.q

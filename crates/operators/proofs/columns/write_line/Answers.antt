@@ -1,23 +1,28 @@
+use mathlib.Core.Path.{refl}
 use native.Mathlib.Omega.{arith}
-use Rattle.operators.proofs.ColumnLaws.{line_start, line_turn, line_end}
+use native.Mathlib.Nat.{sub-zero}
+use Rattle.operators.proofs.ColumnLaws.{laid_start, line_turn, line_end}
 use Rattle.operators.proofs.columns.write_line.Goals as goal
 
 pub loop-i-init : goal.loop-i-init
 loop-i-init c =
-    let o = c.next_place-i.ensures in
-    (o.last, omega arith, o.here, line_start _ _ _ o)
-
-pub loop-i-smaller : goal.loop-i-smaller
-loop-i-smaller c = omega (arith, c.next_place-i-in-loop-i.ensures.from)
+    rw (c.into_iter-i-iterator.ensures.into_iter_gives, c.places_below-i-items.ensures, sub-zero c.args.n)
+    (refl, refl, omega arith, omega arith, laid_start)
 
 pub loop-i-preserved : goal.loop-i-preserved
 loop-i-preserved c =
-    let o = c.next_place-i-in-loop-i.ensures in (
-      o.last,
-      omega (arith, o.from, c.put-next.ensures.next),
-      o.here,
-      line_turn _ _ _ _ c.loop-i.invariant.3 c.loop-i-test.true (c.loop-i.invariant.2 (omega arith)) c.put-next.ensures o,
+    let v = c.loop-i.invariant in
+    let s = c.in-Some.ensures.steps in
+    rw s.after (
+      v.0,
+      v.1,
+      omega (arith, s.below, c.loop-i.iterator),
+      omega (arith, s.found.from, c.put-next.ensures.next),
+      line_turn _ _ _ _ v.4 (rw v.0 at s.found) (rw v.1 at s.below) (omega arith) c.put-next.ensures,
     )
 
 pub returns : goal.returns
-returns c = line_end _ _ _ _ c.loop-i.invariant.3 c.loop-i-test.false
+returns c =
+    let v = c.loop-i.invariant in
+    let s = c.in-None.ensures.steps in
+    line_end _ _ _ _ v.4 (rw v.0 at s.1) (rw v.1 at s.2)

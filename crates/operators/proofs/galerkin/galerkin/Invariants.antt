@@ -3,12 +3,12 @@
 -- Assumes nothing.
 use Rattle.numbers.specs.Places.{number_at}
 use Rattle.lattice.specs.Lattice.{full_lattice}
-use Rattle.operators.specs.Galerkin.{galerkin_numbers, rows_in, fine_row}
+use Rattle.operators.specs.Galerkin.{galerkin_numbers, rows_of, fine_row}
 use Rattle.operators.proofs.GalerkinLaws.{RowsLaid}
 use Rattle.operators.proofs.galerkin.galerkin.Given as goal
 
 abbrev pub invariant-loop-c : goal.invariant-loop-c
 invariant-loop-c l =
     RowsLaid
-    (galerkin_numbers (fine_row l.fine (full_lattice l.l l.st) (number_at l.eps) l.ostarts l.ocolumns l.initial.ovalues) (rows_in l.p l.starts l.columns l.values) (rows_in l.t l.tstarts l.tcolumns l.tvalues))
+    (galerkin_numbers (fine_row l.fine (full_lattice l.l l.st) (number_at l.eps) l.ostarts l.ocolumns l.initial.ovalues) (rows_of l.p) (rows_of l.t))
     l.m l.o.k l.initial.ovalues l.ovalues l.sums l.c

@@ -11,9 +11,6 @@ overflow_add-at-2 c = omega (arith, columned_bounds c.requires.row_ready.columne
 pub overflow_sub-count : goal.overflow_sub-count
 overflow_sub-count c = omega (arith, columned_bounds c.requires.row_ready.columned c.requires.row_ready.low (omega (arith, c.requires.turned_given.low, c.requires.turned_given.transfer.turned.rows_few)))
 
-pub gather-requires : goal.gather-requires
-gather-requires c = c.requires.turned_given
-
 pub diagonal-requires : goal.diagonal-requires
 diagonal-requires c = diagonal_room c.requires.turned_given.transfer.turned c.requires.turned_given.low
 
@@ -23,7 +20,7 @@ lay_sums-requires-clause-n_in_bounds c = let w = columned_row c.requires.row_rea
 
 pub lay_sums-requires-clause-sums_len : goal.lay_sums-requires-clause-sums_len
 lay_sums-requires-clause-sums_len c = let w = columned_row c.requires.row_ready.columned c.requires.row_ready.low refl refl in
-    (row_worked c.args.t c.requires.turned_given.transfer.turned c.requires.turned_given.low c.requires.row_ready refl refl c.requires.sums_value c.gather.ensures c.diagonal.ensures).long
+    (row_worked c.args.t.now.part c.requires.turned_given.transfer.turned c.requires.turned_given.low c.requires.row_ready refl refl c.requires.sums_value c.gather.ensures c.diagonal.ensures).long
 
 pub lay_sums-requires-clause-columns_below : goal.lay_sums-requires-clause-columns_below
 lay_sums-requires-clause-columns_below c = let w = columned_row c.requires.row_ready.columned c.requires.row_ready.low refl refl in
@@ -33,9 +30,9 @@ pub clear-requires : goal.clear-requires
 clear-requires c = let w = columned_row c.requires.row_ready.columned c.requires.row_ready.low refl refl in (w.room, w.few)
 
 pub returns-clause-sums_after : goal.returns-clause-sums_after
-returns-clause-sums_after c = let w = row_worked c.args.t c.requires.turned_given.transfer.turned c.requires.turned_given.low c.requires.row_ready refl refl c.requires.sums_value c.gather.ensures c.diagonal.ensures in
+returns-clause-sums_after c = let w = row_worked c.args.t.now.part c.requires.turned_given.transfer.turned c.requires.turned_given.low c.requires.row_ready refl refl c.requires.sums_value c.gather.ensures c.diagonal.ensures in
     w.cleared _ c.clear.ensures
 
 pub returns-clause-ovalues_after : goal.returns-clause-ovalues_after
-returns-clause-ovalues_after c = let w = row_worked c.args.t c.requires.turned_given.transfer.turned c.requires.turned_given.low c.requires.row_ready refl refl c.requires.sums_value c.gather.ensures c.diagonal.ensures in
+returns-clause-ovalues_after c = let w = row_worked c.args.t.now.part c.requires.turned_given.transfer.turned c.requires.turned_given.low c.requires.row_ready refl refl c.requires.sums_value c.gather.ensures c.diagonal.ensures in
     worked_laid _ w c.lay_sums.ensures

@@ -16,11 +16,11 @@ loop-q-init c = adding_start
 pub get-w-requires : goal.get-w-requires
 get-w-requires c = omega (arith, (bounds c.requires.transfer.turned _ c.requires.low).numbers, c.loop-q-test.true)
 
-pub offset_bounds-tcolumns-q : goal.offset_bounds-tcolumns-q
-offset_bounds-tcolumns-q c = omega (arith, (bounds c.requires.transfer.turned _ c.requires.low).few, c.requires.transfer.turned.low, c.loop-q-test.true)
+pub offset_bounds-t-q : goal.offset_bounds-t-q
+offset_bounds-t-q c = omega (arith, (bounds c.requires.transfer.turned _ c.requires.low).few, c.requires.transfer.turned.low, c.loop-q-test.true)
 
-pub bounds-tcolumns-q : goal.bounds-tcolumns-q
-bounds-tcolumns-q c = omega (arith, (bounds c.requires.transfer.turned _ c.requires.low).room, c.loop-q-test.true)
+pub bounds-t-q : goal.bounds-t-q
+bounds-t-q c = omega (arith, (bounds c.requires.transfer.turned _ c.requires.low).room, c.loop-q-test.true)
 
 pub add_row-requires : goal.add_row-requires
 add_row-requires c =

@@ -1,4 +1,5 @@
 use native.Mathlib.Omega.{arith}
+use Rattle.operators.proofs.CutLaws.{cut_long, cut_at}
 use Rattle.operators.proofs.GatherLaws.{summing_start, summing_turn, summing_end}
 use Rattle.operators.proofs.galerkin.lay_sums.Goals as goal
 
@@ -6,10 +7,23 @@ pub loop-q-init : goal.loop-q-init
 loop-q-init c = summing_start
 
 pub get-requires : goal.get-requires
-get-requires c = omega (arith, c.requires.sums_len, c.requires.columns_below.low c.loop-q.q c.loop-q-test.true)
+get-requires c =
+    let a = c.args in
+    let l = cut_long a.columns.now a.k a.n (omega arith) in
+    omega (
+      arith,
+      cut_at a.columns.now a.k a.n (omega arith) c.loop-q.q 0 c.loop-q-test.true,
+      c.requires.sums_len,
+      c.requires.columns_below.low c.loop-q.q (omega arith),
+    )
 
 pub loop-q-preserved : goal.loop-q-preserved
-loop-q-preserved c = summing_turn c.loop-q.invariant c.loop-q-test.true c.get.ensures c.put.ensures
+loop-q-preserved c =
+    let a = c.args in
+    let l = cut_long a.columns.now a.k a.n (omega arith) in
+    summing_turn c.loop-q.invariant (omega arith) (rw (cut_at a.columns.now a.k a.n (omega arith) c.loop-q.q 0 c.loop-q-test.true) at c.get.ensures) c.put.ensures
 
 pub returns : goal.returns
-returns c = summing_end c.loop-q.invariant c.loop-q-test.false
+returns c =
+    let a = c.args in
+    summing_end c.loop-q.invariant (omega (arith, cut_long a.columns.now a.k a.n (omega arith)))

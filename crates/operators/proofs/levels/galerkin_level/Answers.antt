@@ -6,9 +6,6 @@ use Rattle.operators.proofs.levels.galerkin_level.Goals as goal
 pub level_columns-requires-clause-limits : goal.level_columns-requires-clause-limits
 level_columns-requires-clause-limits c = next_limits c.requires.given
 
-pub level_columns-requires-clause-t_len : goal.level_columns-requires-clause-t_len
-level_columns-requires-clause-t_len c = c.requires.long
-
 pub level_columns-requires-clause-s_bound : goal.level_columns-requires-clause-s_bound
 level_columns-requires-clause-s_bound c = columns_room c.requires.given
 

@@ -37,10 +37,6 @@ pub assembled-sound-requires-clause-from_bound : goal.assembled-sound-requires-c
 assembled-sound-requires-clause-from_bound c = let a = lattice_asked _ _ c.requires.given.limits (both_lines c.requires.given) c.requires.given.chain c.averaged_eps-known.ensures.eps_after (own_lattice _ _ _ _ c.rediscretized_lattice-lc.ensures c.rediscretized_stretches-sc.ensures.result_value) in
     a.1
 
-pub assembled-sound-requires-clause-s_bound : goal.assembled-sound-requires-clause-s_bound
-assembled-sound-requires-clause-s_bound c = let a = lattice_asked _ _ c.requires.given.limits (both_lines c.requires.given) c.requires.given.chain c.averaged_eps-known.ensures.eps_after (own_lattice _ _ _ _ c.rediscretized_lattice-lc.ensures c.rediscretized_stretches-sc.ensures.result_value) in
-    (c.requires.starts_low, c.requires.low)
-
 pub returns-then-known : goal.returns-then-known
 returns-then-known c =
     level_left c.averaged_eps-known.ensures.eps_after (own_lattice _ _ _ _ c.rediscretized_lattice-lc.ensures c.rediscretized_stretches-sc.ensures.result_value) c.averaged_eps-known.ensures.value c.assembled-sound.ensures.laid_rows c.assembled-sound.ensures.value (λ v w p q. both_finite p q c.if-known.true)

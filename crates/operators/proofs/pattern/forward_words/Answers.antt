@@ -7,9 +7,6 @@ use Rattle.operators.proofs.pattern.forward_words.Goals as goal
 pub loop-e-init : goal.loop-e-init
 loop-e-init c = (omega arith, filled_start)
 
-pub forward_word-requires-clause-entries : goal.forward_word-requires-clause-entries
-forward_word-requires-clause-entries c = c.requires
-
 pub loop-e-preserved : goal.loop-e-preserved
 loop-e-preserved c = (omega arith, filled_turn c.loop-e.invariant.1 c.loop-e-test.true (slot_word_no_lem _ _ _ c.forward_word.ensures))
 

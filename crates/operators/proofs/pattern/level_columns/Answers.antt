@@ -9,12 +9,6 @@ use Rattle.operators.proofs.pattern.level_columns.Goals as goal
 pub loop-r-init : goal.loop-r-init
 loop-r-init c = (omega (arith, unknowns_most c.requires.limits), starting_start, going_start)
 
-pub row_columns-next-requires-clause-t_len : goal.row_columns-next-requires-clause-t_len
-row_columns-next-requires-clause-t_len c = c.requires.t_len
-
-pub row_columns-next-requires-clause-limits : goal.row_columns-next-requires-clause-limits
-row_columns-next-requires-clause-limits c = c.requires.limits
-
 pub row_columns-next-requires-clause-inside : goal.row_columns-next-requires-clause-inside
 row_columns-next-requires-clause-inside c = rw c.at-p.ensures (at_inside c.requires.limits _ (omega arith))
 

@@ -6,12 +6,6 @@ use Rattle.operators.proofs.pattern.level_count.Goals as goal
 pub loop-r-init : goal.loop-r-init
 loop-r-init c = (omega (arith, unknowns_most c.requires.limits), counted_none)
 
-pub row_count-count-requires-clause-t_len : goal.row_count-count-requires-clause-t_len
-row_count-count-requires-clause-t_len c = c.requires.t_len
-
-pub row_count-count-requires-clause-limits : goal.row_count-count-requires-clause-limits
-row_count-count-requires-clause-limits c = c.requires.limits
-
 pub row_count-count-requires-clause-inside : goal.row_count-count-requires-clause-inside
 row_count-count-requires-clause-inside c = rw c.at-p.ensures (at_inside c.requires.limits _ (omega arith))
 

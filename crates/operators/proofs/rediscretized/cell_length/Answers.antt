@@ -11,11 +11,5 @@ offset_bounds-x-last c = omega (arith, c.requires.held.low (c.args.m + 1) (omega
 pub bounds-x-last : goal.bounds-x-last
 bounds-x-last c = omega (arith, c.requires.held.low (c.args.m + 1) (omega arith))
 
-pub offset_bounds-x-first : goal.offset_bounds-x-first
-offset_bounds-x-first c = omega (arith, c.requires.held.low c.args.m (omega arith))
-
-pub bounds-x-first : goal.bounds-x-first
-bounds-x-first c = omega (arith, c.requires.held.low c.args.m (omega arith))
-
 pub returns : goal.returns
 returns c = length_is _ _ _ c.requires.m_lt_cells c.sub.ensures

@@ -9,12 +9,6 @@ use Rattle.operators.proofs.rediscretized.node_width.Goals as goal
 pub returns-then-m-eq0 : goal.returns-then-m-eq0
 returns-then-m-eq0 c = c.first_width.ensures ∙ width_first _ _ _ _ c.if-m-eq0.true
 
-pub offset_bounds-x-here : goal.offset_bounds-x-here
-offset_bounds-x-here c = omega (arith, c.requires.tame.centres c.args.m (omega arith))
-
-pub bounds-x-here : goal.bounds-x-here
-bounds-x-here c = omega (arith, c.requires.tame.centres c.args.m (omega arith))
-
 pub offset_bounds-x-before : goal.offset_bounds-x-before
 offset_bounds-x-before c = omega (arith, c.requires.tame.centres (c.args.m - 1) (omega arith))
 

@@ -1,20 +1,10 @@
 -- `operators::rediscretized::rediscretized_stretches` meets its contract.
 -- Assumes nothing.
 use mathlib.Core.Path.{◌∙◌}
-use native.Mathlib.Omega.{arith}
 use lib.ListN.{length-replicate}
 use Rattle.numbers.specs.Complex.{zero_f}
 use Rattle.operators.proofs.RediscretizedLaws.{stretches_are}
 use Rattle.operators.proofs.rediscretized.rediscretized_stretches.Goals as goal
-
-pub lay_axis-requires-3-clause-limits : goal.lay_axis-requires-3-clause-limits
-lay_axis-requires-3-clause-limits c = (c.requires.limits, omega arith)
-
-pub lay_axis-requires-3-clause-held : goal.lay_axis-requires-3-clause-held
-lay_axis-requires-3-clause-held c = c.requires.held_three.z_held
-
-pub lay_axis-requires-3-clause-tame : goal.lay_axis-requires-3-clause-tame
-lay_axis-requires-3-clause-tame c = c.requires.tame.2
 
 pub lay_axis-requires-3-clause-out_len : goal.lay_axis-requires-3-clause-out_len
 lay_axis-requires-3-clause-out_len c = c.lay_axis-2.ensures.long ∙ c.lay_axis.ensures.long ∙ length-replicate 768 zero_f

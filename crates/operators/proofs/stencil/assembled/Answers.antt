@@ -9,18 +9,6 @@ use Rattle.operators.proofs.stencil.assembled.Goals as goal
 pub loop-r-init : goal.loop-r-init
 loop-r-init c = (omega (arith, unknowns_most c.requires.limits, c.unknowns-n.ensures), assembling_start)
 
-pub lay_row-row-requires-clause-limits : goal.lay_row-row-requires-clause-limits
-lay_row-row-requires-clause-limits c = let u = c.loop-r.invariant in
-    c.requires.limits
-
-pub lay_row-row-requires-clause-r_bound : goal.lay_row-row-requires-clause-r_bound
-lay_row-row-requires-clause-r_bound c = let u = c.loop-r.invariant in
-    omega (arith, c.loop-r-test.true, c.unknowns-n.ensures)
-
-pub lay_row-row-requires-clause-from_bound : goal.lay_row-row-requires-clause-from_bound
-lay_row-row-requires-clause-from_bound c = let u = c.loop-r.invariant in
-    c.requires.from_bound
-
 pub lay_row-row-requires-clause-k_bound : goal.lay_row-row-requires-clause-k_bound
 lay_row-row-requires-clause-k_bound c = let u = c.loop-r.invariant in
     omega (arith, c.loop-r-test.true, u.0, u.1.most, c.requires.s_bound.1)

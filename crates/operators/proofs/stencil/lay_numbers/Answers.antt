@@ -6,14 +6,11 @@ use Rattle.operators.proofs.stencil.lay_numbers.Goals as goal
 pub loop-m-init : goal.loop-m-init
 loop-m-init c = laying_start
 
-pub push_number-next-requires : goal.push_number-next-requires
-push_number-next-requires c = omega (arith, laying_most 1 c.loop-m.invariant (λ r l. omega arith), c.loop-m.invariant.high)
+pub push-next-requires : goal.push-next-requires
+push-next-requires c = omega (arith, laying_most 1 c.loop-m.invariant (λ r l. omega arith), c.loop-m.invariant.high)
 
 pub loop-m-preserved : goal.loop-m-preserved
-loop-m-preserved c = laying_turn c.loop-m.invariant (omega arith) (rw c.get.ensures at c.push_number-next.ensures)
+loop-m-preserved c = laying_turn c.loop-m.invariant (omega arith) (rw c.get.ensures at c.push-next.ensures)
 
 pub returns-clause-values_after : goal.returns-clause-values_after
 returns-clause-values_after c = (rw rows_alone at (laying_end c.loop-m.invariant (omega arith))).list
-
-pub returns-clause-value : goal.returns-clause-value
-returns-clause-value c = c.finite_numbers.ensures

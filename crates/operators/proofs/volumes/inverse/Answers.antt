@@ -7,4 +7,4 @@ pub returns-then-is_zero : goal.returns-then-is_zero
 returns-then-is_zero c = inverse_none _ c.is_zero.ensures c.if-is_zero.true c.one.ensures
 
 pub returns : goal.returns
-returns c = inverse_some _ c.is_zero.ensures c.if-is_zero.false c.real_over.ensures
+returns c = inverse_some _ c.is_zero.ensures c.if-is_zero.false c.div.ensures

@@ -8,9 +8,6 @@ use Rattle.operators.proofs.volumes.inverse_shares.Goals as goal
 pub loop-c-init : goal.loop-c-init
 loop-c-init c = sharing_start
 
-pub inverse_share-one-requires-clause-stored : goal.inverse_share-one-requires-clause-stored
-inverse_share-one-requires-clause-stored c = c.requires.stored
-
 pub inverse_share-one-requires-clause-c_lt_m : goal.inverse_share-one-requires-clause-c_lt_m
 inverse_share-one-requires-clause-c_lt_m c = omega (arith, placing_long c.loop-c.invariant.placed)
 

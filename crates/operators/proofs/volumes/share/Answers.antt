@@ -1,16 +1,9 @@
-use native.Mathlib.Omega.{arith}
 use Rattle.numbers.proofs.Equations.{read_from_is}
 use Rattle.operators.proofs.VolumeLaws.{weighing_start, weighing_turn, weighing_end}
 use Rattle.operators.proofs.volumes.share.Goals as goal
 
 pub loop-q-init : goal.loop-q-init
 loop-q-init c = weighing_start c.zero-sum.ensures
-
-pub overflow_add-k : goal.overflow_add-k
-overflow_add-k c = omega (arith, c.requires.shares_room.column_low c.loop-q.q c.loop-q.invariant.low c.loop-q-test.true, c.requires.shares_room.low)
-
-pub get-v-requires : goal.get-v-requires
-get-v-requires c = omega (arith, c.requires.shares_room.column_in_is c.loop-q.q c.loop-q.invariant.low c.loop-q-test.true)
 
 pub loop-q-preserved : goal.loop-q-preserved
 loop-q-preserved c = weighing_turn c.loop-q.invariant c.loop-q-test.true (rw read_from_is c.get-v.ensures) c.get.ensures c.mul.ensures c.add-sum.ensures

@@ -4,20 +4,11 @@ use Rattle.lattice.proofs.RowLaws.{at_in}
 use Rattle.operators.proofs.VolumeLaws.{volume_is}
 use Rattle.operators.proofs.volumes.volume.Goals as goal
 
-pub side-requires-clause-limits : goal.side-requires-clause-limits
-side-requires-clause-limits c = c.requires.limits
-
 pub side-requires-clause-inside : goal.side-requires-clause-inside
 side-requires-clause-inside c = at_in c.requires.limits c.requires.r_bound c.at-p.ensures
 
-pub side-requires-2-clause-limits : goal.side-requires-2-clause-limits
-side-requires-2-clause-limits c = c.requires.limits
-
 pub side-requires-2-clause-inside : goal.side-requires-2-clause-inside
 side-requires-2-clause-inside c = at_in c.requires.limits c.requires.r_bound c.at-p.ensures
-
-pub side-requires-3-clause-limits : goal.side-requires-3-clause-limits
-side-requires-3-clause-limits c = c.requires.limits
 
 pub side-requires-3-clause-inside : goal.side-requires-3-clause-inside
 side-requires-3-clause-inside c = at_in c.requires.limits c.requires.r_bound c.at-p.ensures

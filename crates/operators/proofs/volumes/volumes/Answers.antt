@@ -9,9 +9,6 @@ loop-r-init c = placing_start
 pub overflow_add-k : goal.overflow_add-k
 overflow_add-k c = omega (arith, unknowns_most c.requires.limits)
 
-pub volume-requires-clause-limits : goal.volume-requires-clause-limits
-volume-requires-clause-limits c = c.requires.limits
-
 pub loop-r-preserved : goal.loop-r-preserved
 loop-r-preserved c = placing_turn c.loop-r.invariant c.loop-r-test.true c.volume.ensures c.put.ensures
 

@@ -6,14 +6,14 @@ use Rattle.programs.specs.Reading.{told}
 use Rattle.lattice.specs.Check.{check_grid}
 use Rattle.programs.proofs.reader.grid_told.Goals as goal
 
-pub returns-then-not-is_sound : goal.returns-then-not-is_sound
-returns-then-not-is_sound c = c.check_told.ensures ∙ grid_unsound c.args.limit c.args.room c.args.b c.check_grid-c.result (c.check_grid-c.ensures ∙ ap check_grid c.grid_of-g.ensures.0) c.is_sound.ensures (c.if-not-is_sound.true)
+pub returns-in-Err : goal.returns-in-Err
+returns-in-Err c = c.from.ensures ∙ grid_unsound c.args.limit c.args.room c.args.b c.in-Err.c (c.in-Err.ensures ∙ ap check_grid c.grid_of-g.ensures.0)
 
 pub returns-then-limit-cells : goal.returns-then-limit-cells
-returns-then-limit-cells c = c.say.ensures ∙ (ap (told 13) c.cell_count-cells.ensures.0 ∙ grid_cells c.args.limit c.args.room c.args.b c.check_grid-c.result (c.check_grid-c.ensures ∙ ap check_grid c.grid_of-g.ensures.0) c.is_sound.ensures (c.if-not-is_sound.false) (rw c.cell_count-cells.ensures.0 at c.if-limit-cells.true))
+returns-then-limit-cells c = c.new.ensures ∙ (ap (told 13) c.cell_count-cells.ensures.0 ∙ grid_cells c.args.limit c.args.room c.args.b (c.in_default.ensures ∙ ap check_grid c.grid_of-g.ensures.0) (rw c.cell_count-cells.ensures.0 at c.if-limit-cells.true))
 
 pub returns-then-room-stretch_count : goal.returns-then-room-stretch_count
-returns-then-room-stretch_count c = c.say-then-room-stretch_count.ensures ∙ (ap (told 13) c.cell_count-cells.ensures.0 ∙ grid_room c.args.limit c.args.room c.args.b c.check_grid-c.result (c.check_grid-c.ensures ∙ ap check_grid c.grid_of-g.ensures.0) c.is_sound.ensures (c.if-not-is_sound.false) (rw c.cell_count-cells.ensures.0 at c.if-limit-cells.false) (rw (c.stretch_count.ensures.0, c.edge_count.ensures.0) at c.if-room-stretch_count.true))
+returns-then-room-stretch_count c = c.new-then-room-stretch_count.ensures ∙ (ap (told 13) c.cell_count-cells.ensures.0 ∙ grid_room c.args.limit c.args.room c.args.b (c.in_default.ensures ∙ ap check_grid c.grid_of-g.ensures.0) (rw c.cell_count-cells.ensures.0 at c.if-limit-cells.false) (rw (c.stretch_count.ensures.0, c.edge_count.ensures.0) at c.if-room-stretch_count.true))
 
 pub returns : goal.returns
-returns c = c.say-2.ensures ∙ grid_taken c.args.limit c.args.room c.args.b c.check_grid-c.result (c.check_grid-c.ensures ∙ ap check_grid c.grid_of-g.ensures.0) c.is_sound.ensures (c.if-not-is_sound.false) (rw c.cell_count-cells.ensures.0 at c.if-limit-cells.false) (rw (c.stretch_count.ensures.0, c.edge_count.ensures.0) at c.if-room-stretch_count.false)
+returns c = c.new-2.ensures ∙ grid_taken c.args.limit c.args.room c.args.b (c.in_default.ensures ∙ ap check_grid c.grid_of-g.ensures.0) (rw c.cell_count-cells.ensures.0 at c.if-limit-cells.false) (rw (c.stretch_count.ensures.0, c.edge_count.ensures.0) at c.if-room-stretch_count.false)

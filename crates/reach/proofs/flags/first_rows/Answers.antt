@@ -10,12 +10,6 @@ unknowns-n-requires c = c.requires.limits
 pub loop-c-init : goal.loop-c-init
 loop-c-init c = (omega arith, spread_start)
 
-pub first_row-requires-clause-limits : goal.first_row-requires-clause-limits
-first_row-requires-clause-limits c = c.requires.limits
-
-pub first_row-requires-clause-relations : goal.first_row-requires-clause-relations
-first_row-requires-clause-relations c = c.requires.relations
-
 pub first_row-requires-clause-c_bound : goal.first_row-requires-clause-c_bound
 first_row-requires-clause-c_bound c = omega (arith, c.unknowns-n.ensures)
 

@@ -10,9 +10,6 @@ unknowns-n-requires c = c.requires.limits
 pub loop-c-init : goal.loop-c-init
 loop-c-init c = (omega arith, spread_start)
 
-pub lattice_row-requires-clause-limits : goal.lattice_row-requires-clause-limits
-lattice_row-requires-clause-limits c = c.requires.limits
-
 pub lattice_row-requires-clause-c_bound : goal.lattice_row-requires-clause-c_bound
 lattice_row-requires-clause-c_bound c = omega (arith, c.unknowns-n.ensures)
 

@@ -4,14 +4,8 @@ use Rattle.operators.proofs.RediscretizedLists.{own_lattice}
 use Rattle.store.proofs.PassLaws.{own_held, own_tame, own_asked, own_raised}
 use Rattle.reach.proofs.flags.rediscretized_flags.Goals as goal
 
-pub rediscretized_lattice-own-requires-clause-limits : goal.rediscretized_lattice-own-requires-clause-limits
-rediscretized_lattice-own-requires-clause-limits c = c.requires.limits
-
 pub rediscretized_lattice-own-requires-clause-held_three : goal.rediscretized_lattice-own-requires-clause-held_three
 rediscretized_lattice-own-requires-clause-held_three c = own_held _ c.requires.limits _ c.requires.has_lines c.requires.level_lt_m.0 c.three-s.ensures
-
-pub rediscretized_stretches-stretches-requires-clause-limits : goal.rediscretized_stretches-stretches-requires-clause-limits
-rediscretized_stretches-stretches-requires-clause-limits c = c.requires.limits
 
 pub rediscretized_stretches-stretches-requires-clause-held_three : goal.rediscretized_stretches-stretches-requires-clause-held_three
 rediscretized_stretches-stretches-requires-clause-held_three c = own_held _ c.requires.limits _ c.requires.has_lines c.requires.level_lt_m.0 c.three-s.ensures

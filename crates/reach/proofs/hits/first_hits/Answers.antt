@@ -7,9 +7,6 @@ use Rattle.reach.proofs.hits.first_hits.Goals as goal
 pub raise-requires : goal.raise-requires
 raise-requires c = edge_room _ c.requires.limits c.args.edge c.requires.edge_bound
 
-pub first_operator-requires-clause-limits : goal.first_operator-requires-clause-limits
-first_operator-requires-clause-limits c = c.requires.limits
-
 pub first_operator-requires-clause-grid_in_bounds : goal.first_operator-requires-clause-grid_in_bounds
 first_operator-requires-clause-grid_in_bounds c = first_room (full_lattice c.args.l c.args.st.now) c.requires.limits
 

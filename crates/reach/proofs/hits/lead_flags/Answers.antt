@@ -3,9 +3,6 @@
 use Rattle.store.proofs.HitLaws.{rows_there, leads_first, leads_room, leads_stored}
 use Rattle.reach.proofs.hits.lead_flags.Goals as goal
 
-pub first_flags-requires-clause-limits : goal.first_flags-requires-clause-limits
-first_flags-requires-clause-limits c = c.requires.limits
-
 pub first_flags-requires-clause-grid_in_bounds : goal.first_flags-requires-clause-grid_in_bounds
 first_flags-requires-clause-grid_in_bounds c = leads_room _ _ c.args.out.now c.if-level-eq0.true c.requires.n_value.0 c.requires.n_value.1
 

@@ -4,23 +4,11 @@ use native.Mathlib.Omega.{arith}
 use Rattle.store.proofs.HitLaws.{forward_asked, turned_asked, operator_asked, parts_next}
 use Rattle.reach.proofs.hits.next_parts.Goals as goal
 
-pub level_edges-n-requires-clause-limits : goal.level_edges-n-requires-clause-limits
-level_edges-n-requires-clause-limits c = c.requires.limits
-
 pub level_edges-n-requires-clause-level_le_m : goal.level_edges-n-requires-clause-level_le_m
 level_edges-n-requires-clause-level_le_m c = (omega (arith, c.requires.level_lt_m.0), c.requires.level_lt_m.1)
 
-pub level_edges-n-requires-clause-has_lines : goal.level_edges-n-requires-clause-has_lines
-level_edges-n-requires-clause-has_lines c = c.requires.has_lines
-
-pub level_edges-k-requires-clause-limits : goal.level_edges-k-requires-clause-limits
-level_edges-k-requires-clause-limits c = c.requires.limits
-
 pub level_edges-k-requires-clause-level_le_m : goal.level_edges-k-requires-clause-level_le_m
 level_edges-k-requires-clause-level_le_m c = (omega (arith, c.requires.level_lt_m.0), c.requires.level_lt_m.1)
-
-pub level_edges-k-requires-clause-has_lines : goal.level_edges-k-requires-clause-has_lines
-level_edges-k-requires-clause-has_lines c = c.requires.has_lines
 
 pub behind-forward-requires : goal.behind-forward-requires
 behind-forward-requires c = forward_asked _ c.requires.limits _ _ c.requires.level_lt_m.1 _ c.requires.level_lt_m.0 c.requires.a_value c.requires.level_ends c.level_edges-n.ensures

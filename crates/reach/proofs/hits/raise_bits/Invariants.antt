@@ -6,4 +6,4 @@ use Rattle.store.specs.ReachSteps.{BitsRaised}
 use Rattle.reach.proofs.hits.raise_bits.Given as goal
 
 abbrev pub invariant-loop-r : goal.invariant-loop-r
-invariant-loop-r l = (l.r ≤ l.n) × BitsRaised l.base l.r l.list l.initial.flags l.flags (l.base + l.r)
+invariant-loop-r l = (l.r ≤ l.fn.n) × BitsRaised l.fn.base l.r l.fn.list l.initial.flags l.flags (l.fn.base + l.r)

@@ -5,20 +5,8 @@ use Rattle.store.proofs.BitLaws.{raising_start, raising_turn, raising_room, rais
 use Rattle.store.proofs.HitLaws.{parts_start, transfer_here, operator_here, ends_here}
 use Rattle.reach.proofs.hits.raise_flags.Goals as goal
 
-pub level_edges-first-requires-clause-limits : goal.level_edges-first-requires-clause-limits
-level_edges-first-requires-clause-limits c = c.requires.limits
-
 pub level_edges-first-requires-clause-level_le_m : goal.level_edges-first-requires-clause-level_le_m
 level_edges-first-requires-clause-level_le_m c = (omega arith, c.requires.m_bound)
-
-pub level_edges-first-requires-clause-has_lines : goal.level_edges-first-requires-clause-has_lines
-level_edges-first-requires-clause-has_lines c = c.requires.has_lines
-
-pub first_hits-h-requires-clause-limits : goal.first_hits-h-requires-clause-limits
-first_hits-h-requires-clause-limits c = c.requires.limits
-
-pub first_hits-h-requires-clause-edge_bound : goal.first_hits-h-requires-clause-edge_bound
-first_hits-h-requires-clause-edge_bound c = c.requires.edge_bound
 
 pub sole_bits-base-requires-clause-hits_long : goal.sole_bits-base-requires-clause-hits_long
 sole_bits-base-requires-clause-hits_long c = c.first_hits-h.ensures.long
@@ -29,59 +17,35 @@ sole_bits-base-requires-clause-n_bound c = sole_room _ c.requires.limits c.level
 pub loop-level-init : goal.loop-level-init
 loop-level-init c = raising_start _ _ _ (parts_start (full_lattice c.args.l c.args.st.now) c.args.choice c.args.m) (c.sole_bits-base.ensures.next_is (full_lattice c.args.l c.args.st.now) c.args.choice c.level_edges-first.ensures) c.first_hits-h.ensures.long
 
-pub level_edges-n-requires-clause-limits : goal.level_edges-n-requires-clause-limits
-level_edges-n-requires-clause-limits c = c.requires.limits
-
 pub level_edges-n-requires-clause-level_le_m : goal.level_edges-n-requires-clause-level_le_m
 level_edges-n-requires-clause-level_le_m c = (omega (arith, c.loop-level-test.true), c.requires.m_bound)
-
-pub level_edges-n-requires-clause-has_lines : goal.level_edges-n-requires-clause-has_lines
-level_edges-n-requires-clause-has_lines c = c.requires.has_lines
 
 pub overflow_add-level : goal.overflow_add-level
 overflow_add-level c = omega (arith, c.loop-level-test.true, c.requires.m_bound)
 
-pub level_edges-k-requires-clause-limits : goal.level_edges-k-requires-clause-limits
-level_edges-k-requires-clause-limits c = c.requires.limits
-
 pub level_edges-k-requires-clause-level_le_m : goal.level_edges-k-requires-clause-level_le_m
 level_edges-k-requires-clause-level_le_m c = (omega (arith, c.loop-level-test.true), c.requires.m_bound)
 
-pub level_edges-k-requires-clause-has_lines : goal.level_edges-k-requires-clause-has_lines
-level_edges-k-requires-clause-has_lines c = c.requires.has_lines
+pub level_hits-requires-clause-level_lt_m : goal.level_hits-requires-clause-level_lt_m
+level_hits-requires-clause-level_lt_m c = (c.loop-level-test.true, c.requires.m_bound)
 
-pub level_hits-h-requires-clause-limits : goal.level_hits-h-requires-clause-limits
-level_hits-h-requires-clause-limits c = c.requires.limits
+pub level_hits-requires-clause-hits_long : goal.level_hits-requires-clause-hits_long
+level_hits-requires-clause-hits_long c = c.loop-level.invariant.long
 
-pub level_hits-h-requires-clause-level_lt_m : goal.level_hits-h-requires-clause-level_lt_m
-level_hits-h-requires-clause-level_lt_m c = (c.loop-level-test.true, c.requires.m_bound)
+pub level_hits-requires-clause-transfer_held : goal.level_hits-requires-clause-transfer_held
+level_hits-requires-clause-transfer_held c = transfer_here _ _ _ _ c.requires.shaped _ c.loop-level-test.true c.loop-level.invariant.parts_are
 
-pub level_hits-h-requires-clause-has_lines : goal.level_hits-h-requires-clause-has_lines
-level_hits-h-requires-clause-has_lines c = c.requires.has_lines
-
-pub level_hits-h-requires-clause-hits_long : goal.level_hits-h-requires-clause-hits_long
-level_hits-h-requires-clause-hits_long c = c.loop-level.invariant.long
-
-pub level_hits-h-requires-clause-transfer_held : goal.level_hits-h-requires-clause-transfer_held
-level_hits-h-requires-clause-transfer_held c = transfer_here _ _ _ _ c.requires.shaped _ c.loop-level-test.true c.loop-level.invariant.parts_are
-
-pub level_hits-h-requires-clause-operator_held : goal.level_hits-h-requires-clause-operator_held
-level_hits-h-requires-clause-operator_held c = operator_here _ _ _ _ c.requires.shaped _ c.loop-level-test.true c.loop-level.invariant.parts_are
+pub level_hits-requires-clause-operator_held : goal.level_hits-requires-clause-operator_held
+level_hits-requires-clause-operator_held c = operator_here _ _ _ _ c.requires.shaped _ c.loop-level-test.true c.loop-level.invariant.parts_are
 
 pub level_bits-base-requires-clause-hits_long : goal.level_bits-base-requires-clause-hits_long
-level_bits-base-requires-clause-hits_long c = c.level_hits-h.ensures.long
+level_bits-base-requires-clause-hits_long c = c.level_hits.ensures.long
 
 pub level_bits-base-requires-clause-n_bound : goal.level_bits-base-requires-clause-n_bound
 level_bits-base-requires-clause-n_bound c = raising_room _ _ _ c.loop-level.invariant c.loop-level-test.true c.requires.limits c.requires.m_bound c.level_edges-n.ensures c.level_edges-k.ensures (c.sole_bits-base.ensures.same_long ∙ words_long c.requires.flags_value)
 
-pub next_parts-a-requires-clause-limits : goal.next_parts-a-requires-clause-limits
-next_parts-a-requires-clause-limits c = c.requires.limits
-
 pub next_parts-a-requires-clause-level_lt_m : goal.next_parts-a-requires-clause-level_lt_m
 next_parts-a-requires-clause-level_lt_m c = (c.loop-level-test.true, c.requires.m_bound)
-
-pub next_parts-a-requires-clause-has_lines : goal.next_parts-a-requires-clause-has_lines
-next_parts-a-requires-clause-has_lines c = c.requires.has_lines
 
 pub next_parts-a-requires-clause-a_value : goal.next_parts-a-requires-clause-a_value
 next_parts-a-requires-clause-a_value c = c.loop-level.invariant.parts_are
@@ -93,7 +57,7 @@ pub loop-level-smaller : goal.loop-level-smaller
 loop-level-smaller c = omega (arith, c.loop-level-test.true)
 
 pub loop-level-preserved : goal.loop-level-preserved
-loop-level-preserved c = raising_turn _ _ _ c.loop-level.invariant c.loop-level-test.true c.level_edges-n.ensures c.level_edges-k.ensures c.level_hits-h.ensures c.level_bits-base.ensures c.next_parts-a.ensures
+loop-level-preserved c = raising_turn _ _ _ c.loop-level.invariant c.loop-level-test.true c.level_edges-n.ensures c.level_edges-k.ensures c.level_hits.ensures c.level_bits-base.ensures c.next_parts-a.ensures
 
 pub returns : goal.returns
 returns c = raising_end _ _ _ c.requires.limits c.requires.m_bound c.loop-level.invariant c.loop-level-test.false (c.sole_bits-base.ensures.same_long ∙ words_long c.requires.flags_value) c.args.edge c.first_hits-h.ensures (c.sole_bits-base.ensures.marked _ _ c.level_edges-first.ensures c.args.edge c.first_hits-h.ensures.sole_are (none_set c.requires.flags_value))

@@ -3,29 +3,11 @@
 use Rattle.store.proofs.HitLaws.{level_room, averaged_few, rediscretized_raised}
 use Rattle.reach.proofs.hits.rediscretized_hits.Goals as goal
 
-pub averaged_flags-requires-clause-limits : goal.averaged_flags-requires-clause-limits
-averaged_flags-requires-clause-limits c = c.requires.limits
-
-pub averaged_flags-requires-clause-level_lt_m : goal.averaged_flags-requires-clause-level_lt_m
-averaged_flags-requires-clause-level_lt_m c = c.requires.level_lt_m
-
-pub averaged_flags-requires-clause-has_lines : goal.averaged_flags-requires-clause-has_lines
-averaged_flags-requires-clause-has_lines c = c.requires.has_lines
-
 pub averaged_flags-requires-clause-level_in_bounds : goal.averaged_flags-requires-clause-level_in_bounds
-averaged_flags-requires-clause-level_in_bounds c = averaged_few _ c.requires.limits _ c.args.h c.requires.hits_long
-
-pub rediscretized_flags-requires-clause-limits : goal.rediscretized_flags-requires-clause-limits
-rediscretized_flags-requires-clause-limits c = c.requires.limits
-
-pub rediscretized_flags-requires-clause-level_lt_m : goal.rediscretized_flags-requires-clause-level_lt_m
-rediscretized_flags-requires-clause-level_lt_m c = c.requires.level_lt_m
-
-pub rediscretized_flags-requires-clause-has_lines : goal.rediscretized_flags-requires-clause-has_lines
-rediscretized_flags-requires-clause-has_lines c = c.requires.has_lines
+averaged_flags-requires-clause-level_in_bounds c = averaged_few _ c.requires.limits _ c.args.h.now c.requires.hits_long
 
 pub rediscretized_flags-requires-clause-level_in_bounds : goal.rediscretized_flags-requires-clause-level_in_bounds
 rediscretized_flags-requires-clause-level_in_bounds c = level_room _ c.requires.limits _
 
 pub returns : goal.returns
-returns c = rediscretized_raised _ c.requires.limits _ c.args.h c.requires.hits_long c.averaged_flags.ensures c.rediscretized_flags.ensures
+returns c = rediscretized_raised _ c.requires.limits _ c.args.h.now c.requires.hits_long c.averaged_flags.ensures c.rediscretized_flags.ensures

@@ -4,32 +4,11 @@ use native.Mathlib.Omega.{arith}
 use Rattle.store.proofs.HitLaws.{level_room, forward_there, turned_there, forward_few, turned_few, transfer_raised}
 use Rattle.reach.proofs.hits.transfer_hits.Goals as goal
 
-pub level_edges-n-requires-clause-limits : goal.level_edges-n-requires-clause-limits
-level_edges-n-requires-clause-limits c = c.requires.limits
-
 pub level_edges-n-requires-clause-level_le_m : goal.level_edges-n-requires-clause-level_le_m
 level_edges-n-requires-clause-level_le_m c = (omega (arith, c.requires.level_lt_m.0), c.requires.level_lt_m.1)
 
-pub level_edges-n-requires-clause-has_lines : goal.level_edges-n-requires-clause-has_lines
-level_edges-n-requires-clause-has_lines c = c.requires.has_lines
-
-pub level_edges-k-requires-clause-limits : goal.level_edges-k-requires-clause-limits
-level_edges-k-requires-clause-limits c = c.requires.limits
-
 pub level_edges-k-requires-clause-level_le_m : goal.level_edges-k-requires-clause-level_le_m
 level_edges-k-requires-clause-level_le_m c = (omega (arith, c.requires.level_lt_m.0), c.requires.level_lt_m.1)
-
-pub level_edges-k-requires-clause-has_lines : goal.level_edges-k-requires-clause-has_lines
-level_edges-k-requires-clause-has_lines c = c.requires.has_lines
-
-pub eps_flags-requires-clause-limits : goal.eps_flags-requires-clause-limits
-eps_flags-requires-clause-limits c = c.requires.limits
-
-pub eps_flags-requires-clause-level_lt_m : goal.eps_flags-requires-clause-level_lt_m
-eps_flags-requires-clause-level_lt_m c = c.requires.level_lt_m
-
-pub eps_flags-requires-clause-has_lines : goal.eps_flags-requires-clause-has_lines
-eps_flags-requires-clause-has_lines c = c.requires.has_lines
 
 pub eps_flags-requires-clause-level_in_bounds : goal.eps_flags-requires-clause-level_in_bounds
 eps_flags-requires-clause-level_in_bounds c = level_room _ c.requires.limits _
@@ -47,4 +26,4 @@ pub stored_flags-requires-2-clause-n_in_bounds : goal.stored_flags-requires-2-cl
 stored_flags-requires-2-clause-n_in_bounds c = turned_few _ c.requires.limits _ c.requires.transfer_held c.level_edges-k.ensures
 
 pub returns : goal.returns
-returns c = transfer_raised _ c.requires.limits _ c.requires.transfer_held c.args.h c.level_edges-n.ensures c.level_edges-k.ensures c.eps_flags.ensures c.stored_flags.ensures c.stored_flags-2.ensures c.requires.hits_long
+returns c = transfer_raised _ c.requires.limits _ c.requires.transfer_held c.args.h.now c.level_edges-n.ensures c.level_edges-k.ensures c.eps_flags.ensures c.stored_flags.ensures c.stored_flags-2.ensures c.requires.hits_long

@@ -1,3 +1,6 @@
+use Rattle.std.proofs.Common.{◌<◌}
+use Rattle.std.specs.Float.{nan}
+use Rattle.std.proofs.lemmas.List.{get_or-take, length-take-le}
 use borrow.Author.Rules.{rules}
 use native.Mathlib.Omega.{arith}
 use mathlib.Core.Path.{◌∙◌}
@@ -5,34 +8,36 @@ use Rattle.store.specs.Renewed.{five}
 use Rattle.store.proofs.CellLaws.{cells_same, putting_start, putting_some, putting_turn, putting_end}
 use Rattle.renew.proofs.cursor.put_back.Goals as goal
 
-pub loop-k-init : goal.loop-k-init
-loop-k-init c = (putting_start c.requires.cursor_in c.requires.cells_fit, search rules, search rules, search rules, search rules, search rules)
-
-pub offset_bounds-old-k : goal.offset_bounds-old-k
-offset_bounds-old-k c = omega (arith, c.requires.n_bound.0)
-
-pub bounds-old-k : goal.bounds-old-k
-bounds-old-k c = omega (arith, c.requires.n_bound.0, c.requires.len)
+pub loop-x-init : goal.loop-x-init
+loop-x-init c = (putting_start c.requires.cursor_in c.requires.cells_fit, search rules, search rules, search rules, search rules, search rules)
 
 pub write-requires : goal.write-requires
-write-requires c = let s = putting_some (five c.loop-k.eps c.loop-k.values c.loop-k.tvalues c.loop-k.ovalues c.loop-k.scaling) c.loop-k.c c.loop-k.k c.loop-k.invariant.0 (omega arith) c.requires.n_bound.1 in let h = c.loop-k.invariant.0.within.there (λ z. omega (arith, z, s)) _ c.loop-k.invariant.0.fits in omega (arith, h, s)
-
-pub step-c-requires-clause-chart_fits : goal.step-c-requires-clause-chart_fits
-step-c-requires-clause-chart_fits c = c.requires.chart_fits
+write-requires c =
+    let n = length-take-le c.args.n c.args.old.now (omega (arith, c.requires.n_bound.0, c.requires.len)) in
+    let h : c.loop-x.x-index < c.args.n = omega (arith, n) in
+    let s = putting_some (five c.loop-x.eps c.loop-x.values c.loop-x.tvalues c.loop-x.ovalues c.loop-x.scaling) c.loop-x.c c.loop-x.x-index c.loop-x.invariant.0 h c.requires.n_bound.1 in let h = c.loop-x.invariant.0.within.there (λ z. omega (arith, z, s)) _ c.loop-x.invariant.0.fits in omega (arith, h, s)
 
 pub step-c-requires-clause-cursor_in : goal.step-c-requires-clause-cursor_in
-step-c-requires-clause-cursor_in c = (c.loop-k.invariant.0.within, putting_some (five c.loop-k.eps c.loop-k.values c.loop-k.tvalues c.loop-k.ovalues c.loop-k.scaling) c.loop-k.c c.loop-k.k c.loop-k.invariant.0 (omega arith) c.requires.n_bound.1)
+step-c-requires-clause-cursor_in c =
+    let n = length-take-le c.args.n c.args.old.now (omega (arith, c.requires.n_bound.0, c.requires.len)) in
+    let h : c.loop-x.x-index < c.args.n = omega (arith, n) in
+    (c.loop-x.invariant.0.within, putting_some (five c.loop-x.eps c.loop-x.values c.loop-x.tvalues c.loop-x.ovalues c.loop-x.scaling) c.loop-x.c c.loop-x.x-index c.loop-x.invariant.0 h c.requires.n_bound.1)
 
-pub loop-k-preserved : goal.loop-k-preserved
-loop-k-preserved c = (
-  putting_turn (five c.loop-k.eps c.loop-k.values c.loop-k.tvalues c.loop-k.ovalues c.loop-k.scaling) _ c.loop-k.c c.step-c.result c.loop-k.k c.loop-k.invariant.0 (omega arith) c.write.ensures
-      (cells_same _ _ (five c.loop-k.eps c.loop-k.values c.loop-k.tvalues c.loop-k.ovalues c.loop-k.scaling) _ c.write.auto.eps c.write.auto.values c.write.auto.tvalues c.write.auto.ovalues c.write.auto.scaling c.loop-k.invariant.0.fits) c.step-c.ensures,
-  c.write.auto.eps ∙ c.loop-k.invariant.1,
-  c.write.auto.values ∙ c.loop-k.invariant.2,
-  c.write.auto.tvalues ∙ c.loop-k.invariant.3,
-  c.write.auto.ovalues ∙ c.loop-k.invariant.4,
-  c.write.auto.scaling ∙ c.loop-k.invariant.5,
-)
+pub loop-x-preserved : goal.loop-x-preserved
+loop-x-preserved c =
+    let n = length-take-le c.args.n c.args.old.now (omega (arith, c.requires.n_bound.0, c.requires.len)) in
+    let h : c.loop-x.x-index < c.args.n = omega (arith, n) in
+    let z = get_or-take c.args.n c.args.old.now c.loop-x.x-index nan h in (
+      putting_turn (five c.loop-x.eps c.loop-x.values c.loop-x.tvalues c.loop-x.ovalues c.loop-x.scaling) _ c.loop-x.c c.step-c.result c.loop-x.x-index c.loop-x.invariant.0 h (rw z at c.write.ensures)
+          (cells_same _ _ (five c.loop-x.eps c.loop-x.values c.loop-x.tvalues c.loop-x.ovalues c.loop-x.scaling) _ c.write.auto.eps c.write.auto.values c.write.auto.tvalues c.write.auto.ovalues c.write.auto.scaling c.loop-x.invariant.0.fits) c.step-c.ensures,
+      c.write.auto.eps ∙ c.loop-x.invariant.1,
+      c.write.auto.values ∙ c.loop-x.invariant.2,
+      c.write.auto.tvalues ∙ c.loop-x.invariant.3,
+      c.write.auto.ovalues ∙ c.loop-x.invariant.4,
+      c.write.auto.scaling ∙ c.loop-x.invariant.5,
+    )
 
 pub returns : goal.returns
-returns c = putting_end (five c.loop-k.eps c.loop-k.values c.loop-k.tvalues c.loop-k.ovalues c.loop-k.scaling) c.loop-k.c c.loop-k.k c.loop-k.invariant.0 (omega arith)
+returns c =
+    let n = length-take-le c.args.n c.args.old.now (omega (arith, c.requires.n_bound.0, c.requires.len)) in
+    putting_end (five c.loop-x.eps c.loop-x.values c.loop-x.tvalues c.loop-x.ovalues c.loop-x.scaling) c.loop-x.c c.loop-x.x-index c.loop-x.invariant.0 (omega (arith, n))

@@ -1,6 +1,6 @@
 -- `store::cursor::save` meets its contract.
 -- Assumes nothing.
-use Prim.Native.Nat.{◌-◌}
+use Rattle.std.proofs.Common.{◌<◌}
 use Rattle.store.specs.Renewed.{five}
 use Rattle.store.specs.Cells.{chart}
 use Rattle.store.proofs.CellLaws.{Saving}
@@ -8,8 +8,4 @@ use Rattle.renew.proofs.cursor.save.Given as goal
 
 abbrev pub invariant-loop-n : goal.invariant-loop-n
 invariant-loop-n l =
-    Saving (chart l.flags l.shape l.starts l.tstarts l.ostarts) l.parts (five l.eps l.values l.tvalues l.ovalues l.scaling) l.initial.c l.old l.c l.n
-
-abbrev pub decreases-loop-n : goal.decreases-loop-n
-decreases-loop-n l =
-    512 - l.n
+    (0 < l.c.left) × Saving (chart l.flags l.shape l.starts l.tstarts l.ostarts) l.parts (five l.eps l.values l.tvalues l.ovalues l.scaling) l.initial.c l.old l.c l.n

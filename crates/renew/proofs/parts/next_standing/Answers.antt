@@ -5,27 +5,6 @@ use Rattle.lattice.specs.Lattice.{full_lattice}
 use Rattle.store.proofs.LevelParts.{only_small, edges_small, place_small, starts_small, standing_next}
 use Rattle.renew.proofs.parts.next_standing.Goals as goal
 
-pub level_edges-n-requires-clause-limits : goal.level_edges-n-requires-clause-limits
-level_edges-n-requires-clause-limits c = c.requires.limits
-
-pub level_edges-n-requires-clause-level_le_m : goal.level_edges-n-requires-clause-level_le_m
-level_edges-n-requires-clause-level_le_m c = (omega (arith, c.requires.level_lt_m), c.requires.level_lt_m.1)
-
-pub level_edges-n-requires-clause-has_lines : goal.level_edges-n-requires-clause-has_lines
-level_edges-n-requires-clause-has_lines c = c.requires.has_lines
-
-pub overflow_add-level : goal.overflow_add-level
-overflow_add-level c = omega (arith, c.requires.level_lt_m)
-
-pub level_edges-c-requires-clause-limits : goal.level_edges-c-requires-clause-limits
-level_edges-c-requires-clause-limits c = c.requires.limits
-
-pub level_edges-c-requires-clause-level_le_m : goal.level_edges-c-requires-clause-level_le_m
-level_edges-c-requires-clause-level_le_m c = (omega (arith, c.requires.level_lt_m), c.requires.level_lt_m.1)
-
-pub level_edges-c-requires-clause-has_lines : goal.level_edges-c-requires-clause-has_lines
-level_edges-c-requires-clause-has_lines c = c.requires.has_lines
-
 pub overflow_mul-base : goal.overflow_mul-base
 overflow_mul-base c = let s = edges_small (full_lattice c.args.l c.args.st.now) c.requires.limits c.args.choice c.args.m c.args.level c.requires.level_lt_m c.requires.w_value c.requires.operator_starts c.level_edges-n.ensures c.level_edges-c.ensures in let t = place_small (full_lattice c.args.l c.args.st.now) c.requires.limits c.args.choice c.args.m c.args.level c.requires.level_lt_m c.requires.w_value c.requires.operator_starts c.level_edges-n.ensures c.level_edges-c.ensures in let d = only_small c.args.choice s.0 c.only-d.ensures in let e = only_small c.args.choice s.1 c.only-e.ensures in omega (arith, s.0, s.1, t.0, t.1, t.2, d, e)
 

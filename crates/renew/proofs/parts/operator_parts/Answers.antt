@@ -6,26 +6,8 @@ use Rattle.store.specs.Renewed.{fixed}
 use Rattle.store.proofs.LevelParts.{base_small, galerkin_ready, scaled_ready, parts_galerkin, parts_scaled}
 use Rattle.renew.proofs.parts.operator_parts.Goals as goal
 
-pub level_edges-n-requires-clause-limits : goal.level_edges-n-requires-clause-limits
-level_edges-n-requires-clause-limits c = c.requires.shaped.limits
-
-pub level_edges-n-requires-clause-level_le_m : goal.level_edges-n-requires-clause-level_le_m
-level_edges-n-requires-clause-level_le_m c = (omega (arith, c.requires.level_lt_m), c.requires.shaped.few)
-
-pub level_edges-n-requires-clause-has_lines : goal.level_edges-n-requires-clause-has_lines
-level_edges-n-requires-clause-has_lines c = c.requires.has_lines
-
 pub overflow_add-level : goal.overflow_add-level
 overflow_add-level c = omega (arith, c.requires.level_lt_m, c.requires.shaped.few)
-
-pub level_edges-c-requires-clause-limits : goal.level_edges-c-requires-clause-limits
-level_edges-c-requires-clause-limits c = c.requires.shaped.limits
-
-pub level_edges-c-requires-clause-level_le_m : goal.level_edges-c-requires-clause-level_le_m
-level_edges-c-requires-clause-level_le_m c = (omega (arith, c.requires.level_lt_m), c.requires.shaped.few)
-
-pub level_edges-c-requires-clause-has_lines : goal.level_edges-c-requires-clause-has_lines
-level_edges-c-requires-clause-has_lines c = c.requires.has_lines
 
 pub overflow_mul-b : goal.overflow_mul-b
 overflow_mul-b c = let s = base_small (full_lattice c.args.l c.args.st.now) c.requires.shaped.limits c.args.choice c.args.m c.args.level (c.requires.level_lt_m, c.requires.shaped.few) c.requires.o_value.2 c.args.flags.now c.requires.m_bound.0 c.level_edges-n.ensures c.level_edges-c.ensures in omega (arith, s.0, s.1, s.2)
@@ -35,12 +17,6 @@ overflow_add-b c = let s = base_small (full_lattice c.args.l c.args.st.now) c.re
 
 pub overflow_add-b-in-Galerkin : goal.overflow_add-b-in-Galerkin
 overflow_add-b-in-Galerkin c = let s = base_small (full_lattice c.args.l c.args.st.now) c.requires.shaped.limits c.args.choice c.args.m c.args.level (c.requires.level_lt_m, c.requires.shaped.few) c.requires.o_value.2 c.args.flags.now c.requires.m_bound.0 c.level_edges-n.ensures c.level_edges-c.ensures in omega (arith, s.0, s.1, s.2)
-
-pub galerkin_part-requires-clause-level_lt_m : goal.galerkin_part-requires-clause-level_lt_m
-galerkin_part-requires-clause-level_lt_m c = c.requires.level_lt_m
-
-pub galerkin_part-requires-clause-has_lines : goal.galerkin_part-requires-clause-has_lines
-galerkin_part-requires-clause-has_lines c = c.requires.has_lines
 
 pub galerkin_part-requires-clause-shaped : goal.galerkin_part-requires-clause-shaped
 galerkin_part-requires-clause-shaped c = (galerkin_ready (full_lattice c.args.l c.args.st.now) c.args.choice c.args.m (fixed c.args.starts.now c.args.columns.now c.args.tstarts.now c.args.tcolumns.now c.args.ostarts.now c.args.ocolumns.now) c.requires.shaped c.args.level c.requires.level_lt_m c.requires.o_value c.args.flags.now c.requires.m_bound c.requires.five_room c.in-Galerkin.is c.level_edges-n.ensures c.level_edges-c.ensures).0
@@ -54,14 +30,8 @@ galerkin_part-requires-clause-o_value c = (galerkin_ready (full_lattice c.args.l
 pub galerkin_part-requires-clause-part_flags : goal.galerkin_part-requires-clause-part_flags
 galerkin_part-requires-clause-part_flags c = (galerkin_ready (full_lattice c.args.l c.args.st.now) c.args.choice c.args.m (fixed c.args.starts.now c.args.columns.now c.args.tstarts.now c.args.tcolumns.now c.args.ostarts.now c.args.ocolumns.now) c.requires.shaped c.args.level c.requires.level_lt_m c.requires.o_value c.args.flags.now c.requires.m_bound c.requires.five_room c.in-Galerkin.is c.level_edges-n.ensures c.level_edges-c.ensures).1.1.1
 
-pub scaled_parts-requires-clause-limits : goal.scaled_parts-requires-clause-limits
-scaled_parts-requires-clause-limits c = c.requires.shaped.limits
-
 pub scaled_parts-requires-clause-level_lt_m : goal.scaled_parts-requires-clause-level_lt_m
 scaled_parts-requires-clause-level_lt_m c = (c.requires.level_lt_m, c.requires.shaped.few)
-
-pub scaled_parts-requires-clause-has_lines : goal.scaled_parts-requires-clause-has_lines
-scaled_parts-requires-clause-has_lines c = c.requires.has_lines
 
 pub scaled_parts-requires-clause-o_value : goal.scaled_parts-requires-clause-o_value
 scaled_parts-requires-clause-o_value c = (scaled_ready (full_lattice c.args.l c.args.st.now) c.args.choice c.args.m (fixed c.args.starts.now c.args.columns.now c.args.tstarts.now c.args.tcolumns.now c.args.ostarts.now c.args.ocolumns.now) c.requires.shaped c.args.level c.requires.level_lt_m c.requires.o_value c.args.flags.now c.requires.m_bound c.requires.five_room c.in-Rediscretized.is).0

@@ -27,17 +27,8 @@ returns-then-m-eq0 c = rows_sole (fixed c.args.starts.now c.args.columns.now c.a
 pub renew_levels-requires-clause-m_nonzero : goal.renew_levels-requires-clause-m_nonzero
 renew_levels-requires-clause-m_nonzero c = omega (arith, c.if-m-eq0.false)
 
-pub renew_levels-requires-clause-has_lines : goal.renew_levels-requires-clause-has_lines
-renew_levels-requires-clause-has_lines c = c.requires.has_lines
-
 pub renew_levels-requires-clause-m_bound : goal.renew_levels-requires-clause-m_bound
 renew_levels-requires-clause-m_bound c = (c.requires.m_bound_2, c.requires.no_volumes)
-
-pub renew_levels-requires-clause-shaped : goal.renew_levels-requires-clause-shaped
-renew_levels-requires-clause-shaped c = c.requires.shaped
-
-pub renew_levels-requires-clause-five_room : goal.renew_levels-requires-clause-five_room
-renew_levels-requires-clause-five_room c = c.requires.five_room
 
 pub returns : goal.returns
 returns c = c.renew_levels.ensures

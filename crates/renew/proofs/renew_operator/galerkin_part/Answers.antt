@@ -8,15 +8,6 @@ use Rattle.renew.proofs.renew_operator.galerkin_part.Goals as goal
 pub overflow_add-level : goal.overflow_add-level
 overflow_add-level c = omega (arith, c.requires.level_lt_m, c.requires.shaped.few)
 
-pub level_edges-n-requires-clause-limits : goal.level_edges-n-requires-clause-limits
-level_edges-n-requires-clause-limits c = c.requires.shaped.limits
-
-pub level_edges-n-requires-clause-level_le_m : goal.level_edges-n-requires-clause-level_le_m
-level_edges-n-requires-clause-level_le_m c = (omega (arith, c.requires.level_lt_m), c.requires.shaped.few)
-
-pub level_edges-n-requires-clause-has_lines : goal.level_edges-n-requires-clause-has_lines
-level_edges-n-requires-clause-has_lines c = c.requires.has_lines
-
 pub galerkin_rows-requires-clause-level_lt_m : goal.galerkin_rows-requires-clause-level_lt_m
 galerkin_rows-requires-clause-level_lt_m c = let t = entries_there _ c.args.m c.args.level c.args.base c.args.flags.now _ c.requires.part_flags (edges_next _ _ c.level_edges-n.ensures) in c.requires.level_lt_m
 

@@ -1,3 +1,4 @@
+use Rattle.std.proofs.Common.{◌≡◌, ◌+◌, suc}
 use Prim.Native.Nat.{suc}
 use mathlib.Core.Path.{refl}
 use native.Mathlib.Omega.{arith}
@@ -16,17 +17,8 @@ loop-c-init c = (omega arith, (refl, ((rows_start {f = λ _. []} {m = 0} {k = 0}
 pub overflow_add-base : goal.overflow_add-base
 overflow_add-base c = omega (arith, c.requires.n_value, c.loop-c-test.true, edges_few (full_lattice c.args.l c.args.st.now) c.requires.shaped.limits (suc c.args.level))
 
-pub galerkin_row-requires-clause-level_lt_m : goal.galerkin_row-requires-clause-level_lt_m
-galerkin_row-requires-clause-level_lt_m c = c.requires.level_lt_m
-
-pub galerkin_row-requires-clause-shaped : goal.galerkin_row-requires-clause-shaped
-galerkin_row-requires-clause-shaped c = c.requires.shaped
-
 pub galerkin_row-requires-clause-five_room : goal.galerkin_row-requires-clause-five_room
 galerkin_row-requires-clause-five_room c = galerkin_long c.loop-c.ovalues c.loop-c.invariant.1.0 c.requires.five_room
-
-pub galerkin_row-requires-clause-galerkin_places : goal.galerkin_row-requires-clause-galerkin_places
-galerkin_row-requires-clause-galerkin_places c = c.requires.galerkin_places
 
 pub galerkin_row-requires-clause-sums_value : goal.galerkin_row-requires-clause-sums_value
 galerkin_row-requires-clause-sums_value c = c.loop-c.invariant.1.1.0
@@ -34,11 +26,10 @@ galerkin_row-requires-clause-sums_value c = c.loop-c.invariant.1.1.0
 pub galerkin_row-requires-clause-c_bound : goal.galerkin_row-requires-clause-c_bound
 galerkin_row-requires-clause-c_bound c = (omega (arith, c.requires.n_value, c.loop-c-test.true), omega (arith, c.requires.n_value, c.loop-c-test.true))
 
-pub overflow_add-result : goal.overflow_add-result
-overflow_add-result c = omega (arith, c.requires.level_lt_m, c.requires.shaped.few)
-
 pub returns-then-not-galerkin_row : goal.returns-then-not-galerkin_row
-returns-then-not-galerkin_row c = galerkin_stop c.args.level c.args.flags.now c.args.base c.loop-c.c c.args.n c.loop-c-test.true (c.if-not-galerkin_row.true) c.loop-c.invariant.1.1.1 c.galerkin_row.ensures.galerkin_taken
+returns-then-not-galerkin_row c =
+    let z : suc (c.args.level + 1) ≡ c.args.level + 2 = omega arith in
+    rw z (galerkin_stop c.args.level c.args.flags.now c.args.base c.loop-c.c c.args.n c.loop-c-test.true (c.if-not-galerkin_row.true) c.loop-c.invariant.1.1.1 c.galerkin_row.ensures.galerkin_taken)
 
 pub loop-c-preserved : goal.loop-c-preserved
 loop-c-preserved c = (omega arith, (search rules, (c.galerkin_row.ensures.sums_after, galerkin_next c.args.level c.args.flags.now c.args.base c.loop-c.c (c.if-not-galerkin_row.false) c.loop-c.invariant.1.1.1 c.galerkin_row.ensures.galerkin_taken)))

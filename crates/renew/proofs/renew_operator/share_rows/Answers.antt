@@ -1,35 +1,38 @@
-use mathlib.Core.Path.{refl}
 use native.Mathlib.Omega.{arith}
-use Rattle.store.proofs.ShareLaws.{shares_none, shares_next, shares_stop, shares_end}
-use borrow.Author.Rules.{rules}
+use Rattle.std.proofs.Common.{List, Float, rules, ap, ◌+◌, ◌*◌, ◌≤◌, ◌<◌, suc, length}
+use Rattle.lattice.specs.Grid.{Limits}
+use Rattle.lattice.specs.Lattice.{full_lattice}
+use Rattle.operators.proofs.RangeLaws.{edges_few}
+use Rattle.store.specs.declared.Choice.TheVariants.{Rediscretized}
+use Rattle.store.specs.Renewed.{fixed, five}
+use Rattle.store.specs.RenewSteps.{ShareMade, TurnedRows, SharePlaces}
+use Rattle.store.specs.Layout.{scale_off}
+use Rattle.store.specs.Rows.{share}
+use Rattle.renew.proofs.EachLaws.{each_renewed}
 use Rattle.renew.proofs.renew_operator.share_rows.Goals as goal
 
-pub loop-i-init : goal.loop-i-init
-loop-i-init c = (omega arith, (refl, shares_none c.args.level c.args.flags.now c.args.base))
+pub renew_each-requires-clause-flags_there : goal.renew_each-requires-clause-flags_there
+renew_each-requires-clause-flags_there c = let n = edges_few (full_lattice c.args.l c.args.st.now) c.requires.limits (suc c.args.level) in
+    (omega (arith, c.requires.base_bound), omega (arith, n, c.requires.share_places.coarse_is), omega (arith, c.requires.base_bound))
 
-pub share_row-requires-clause-limits : goal.share_row-requires-clause-limits
-share_row-requires-clause-limits c = c.requires.limits
-
-pub share_row-requires-clause-level_lt_m : goal.share_row-requires-clause-level_lt_m
-share_row-requires-clause-level_lt_m c = c.requires.level_lt_m
-
-pub share_row-requires-clause-turned_rows : goal.share_row-requires-clause-turned_rows
-share_row-requires-clause-turned_rows c = c.requires.turned_rows
-
-pub share_row-requires-clause-share_places : goal.share_row-requires-clause-share_places
-share_row-requires-clause-share_places c = c.requires.share_places
-
-pub share_row-requires-clause-m_in_bounds : goal.share_row-requires-clause-m_in_bounds
-share_row-requires-clause-m_in_bounds c = omega (arith, c.requires.m_in_bounds, c.loop-i.invariant.1.0)
-
-pub share_row-requires-clause-i_lt_c : goal.share_row-requires-clause-i_lt_c
-share_row-requires-clause-i_lt_c c = (omega arith, omega (arith, c.requires.base_bound, c.loop-i-test.true))
-
-pub returns-then-not-share_row : goal.returns-then-not-share_row
-returns-then-not-share_row c = shares_stop c.args.level c.args.flags.now c.args.base c.loop-i.i c.args.c c.loop-i-test.true (c.if-not-share_row.true) c.loop-i.invariant.1.1 c.share_row.ensures
-
-pub loop-i-preserved : goal.loop-i-preserved
-loop-i-preserved c = (omega arith, (search rules, shares_next c.args.level c.args.flags.now c.args.base c.loop-i.i (c.if-not-share_row.false) c.loop-i.invariant.1.1 c.share_row.ensures))
+pub renew_each-requires-clause-takes : goal.renew_each-requires-clause-takes
+renew_each-requires-clause-takes c = λ xs r k h. record {
+  taken = λ p e.
+      let q : 2 * scale_off (full_lattice c.args.l c.args.st.now) c.args.m ≤ length p.now = omega (arith, k, ap length e, c.requires.m_in_bounds) in
+      let w : Limits c.args.l.grid × (((c.args.level < c.args.m) × (c.args.m ≤ 11)) × (TurnedRows (full_lattice c.args.l c.args.st.now) c.args.level c.args.tstarts.now c.args.tcolumns.now c.args.tvalues.now
+      × (SharePlaces (full_lattice c.args.l c.args.st.now) c.args.level c.args.t c.args.k c.args.n c.args.c × ((2 * scale_off (full_lattice c.args.l c.args.st.now) c.args.m ≤ length p.now) × (r < c.args.c))))) =
+      (c.requires.limits, (c.requires.level_lt_m, (c.requires.turned_rows, (c.requires.share_places, (q, h))))) in
+      λ κs a b' d. search w;
+}
 
 pub returns : goal.returns
-returns c = shares_end c.args.level c.args.flags.now c.args.base c.loop-i.i c.args.c c.loop-i.invariant.0 c.loop-i-test.false c.loop-i.invariant.1.1
+returns c = record {
+  each = λ fs fc os oc e f o.
+      each_renewed _ _ (full_lattice c.args.l c.args.st.now) Rediscretized c.args.m (fixed fs fc c.args.tstarts.now c.args.tcolumns.now os oc) (share c.args.level) c.args.flags.now c.args.base c.args.c
+      (λ (sc : List Float). five e f c.args.tvalues.now o sc) c.args.scaling.now
+      (λ r zs b ys h k g.
+      let z = g.met in
+      let y : ShareMade (full_lattice c.args.l c.args.st.now) c.args.m c.args.tstarts.now c.args.tcolumns.now (share c.args.level r) c.args.tvalues.now g.shown.now b g.left.now = search rules in
+      rw (← g.shows, ← g.leaves) (y.each fs fc os oc e f o))
+      (c.args.level + 1) (λ r. omega arith) c.renew_each.result c.renew_each.new.list c.renew_each.ensures;
+}

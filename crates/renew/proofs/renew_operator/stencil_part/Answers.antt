@@ -5,14 +5,8 @@ use Rattle.operators.proofs.RediscretizedLists.{own_lattice}
 use Rattle.store.proofs.PartRowLaws.{own_held, own_tame, stencil_ready, stencil_done}
 use Rattle.renew.proofs.renew_operator.stencil_part.Goals as goal
 
-pub rediscretized_lattice-own-requires-clause-limits : goal.rediscretized_lattice-own-requires-clause-limits
-rediscretized_lattice-own-requires-clause-limits c = c.requires.limits
-
 pub rediscretized_lattice-own-requires-clause-held_three : goal.rediscretized_lattice-own-requires-clause-held_three
 rediscretized_lattice-own-requires-clause-held_three c = own_held _ c.requires.limits _ c.requires.level_lt_m c.requires.has_lines c.three-s.ensures
-
-pub rediscretized_stretches-stretches-requires-clause-limits : goal.rediscretized_stretches-stretches-requires-clause-limits
-rediscretized_stretches-stretches-requires-clause-limits c = c.requires.limits
 
 pub rediscretized_stretches-stretches-requires-clause-held_three : goal.rediscretized_stretches-stretches-requires-clause-held_three
 rediscretized_stretches-stretches-requires-clause-held_three c = own_held _ c.requires.limits _ c.requires.level_lt_m c.requires.has_lines c.three-s.ensures
@@ -22,15 +16,6 @@ rediscretized_stretches-stretches-requires-clause-tame c = own_tame _ c.requires
 
 pub overflow_add-level-2 : goal.overflow_add-level-2
 overflow_add-level-2 c = omega (arith, c.requires.level_lt_m)
-
-pub level_edges-n-requires-clause-limits : goal.level_edges-n-requires-clause-limits
-level_edges-n-requires-clause-limits c = c.requires.limits
-
-pub level_edges-n-requires-clause-level_le_m : goal.level_edges-n-requires-clause-level_le_m
-level_edges-n-requires-clause-level_le_m c = (omega (arith, c.requires.level_lt_m), c.requires.level_lt_m.1)
-
-pub level_edges-n-requires-clause-has_lines : goal.level_edges-n-requires-clause-has_lines
-level_edges-n-requires-clause-has_lines c = c.requires.has_lines
 
 pub overflow_add-level-3 : goal.overflow_add-level-3
 overflow_add-level-3 c = omega (arith, c.requires.level_lt_m)

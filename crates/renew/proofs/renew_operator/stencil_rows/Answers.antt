@@ -1,35 +1,40 @@
-use borrow.Author.Rules.{rules}
-use mathlib.Core.Path.{refl}
 use native.Mathlib.Omega.{arith}
-use Rattle.store.proofs.EntryLaws.{entries_none, entries_next, entries_stop, entries_end}
+use Rattle.std.proofs.Common.{List, Float, rules, ap, ◌+◌, ◌*◌, ◌^◌, ◌≤◌, ◌<◌, length, refl}
+use Rattle.lattice.specs.Grid.{Limits}
+use Rattle.lattice.specs.Lattice.{full_lattice}
+use Rattle.operators.specs.LevelLists.{edges_on}
+use Rattle.operators.proofs.RangeLaws.{edges_few}
+use Rattle.store.specs.Renewed.{five}
+use Rattle.store.specs.RenewSteps.{EntryMade, StencilRule, OperatorStarts}
+use Rattle.store.specs.Layout.{operator_count}
+use Rattle.store.specs.Rows.{operator}
+use Rattle.renew.proofs.EachLaws.{each_renewed}
 use Rattle.renew.proofs.renew_operator.stencil_rows.Goals as goal
 
-pub loop-r-init : goal.loop-r-init
-loop-r-init c = (omega arith, (refl, entries_none c.args.level c.args.flags.now c.args.base))
+pub renew_each-requires-clause-flags_there : goal.renew_each-requires-clause-flags_there
+renew_each-requires-clause-flags_there c = let n = edges_few (full_lattice c.args.l c.args.st.now) c.requires.limits c.args.level in
+    (omega (arith, c.requires.n_value), omega (arith, n, c.requires.n_value), omega (arith, c.requires.n_value))
 
-pub stencil_row-requires-clause-limits : goal.stencil_row-requires-clause-limits
-stencil_row-requires-clause-limits c = c.requires.limits
-
-pub stencil_row-requires-clause-stencil_rule : goal.stencil_row-requires-clause-stencil_rule
-stencil_row-requires-clause-stencil_rule c = c.requires.stencil_rule
-
-pub stencil_row-requires-clause-from_bound : goal.stencil_row-requires-clause-from_bound
-stencil_row-requires-clause-from_bound c = c.requires.from_bound
-
-pub stencil_row-requires-clause-operator_starts : goal.stencil_row-requires-clause-operator_starts
-stencil_row-requires-clause-operator_starts c = c.requires.operator_starts
-
-pub stencil_row-requires-clause-level_in_bounds : goal.stencil_row-requires-clause-level_in_bounds
-stencil_row-requires-clause-level_in_bounds c = omega (arith, c.requires.level_in_bounds, c.loop-r.invariant.1.0)
-
-pub stencil_row-requires-clause-r_bound : goal.stencil_row-requires-clause-r_bound
-stencil_row-requires-clause-r_bound c = (omega (arith, c.requires.n_value.0), omega (arith, c.requires.n_value, c.loop-r-test.true))
-
-pub returns-then-not-stencil_row : goal.returns-then-not-stencil_row
-returns-then-not-stencil_row c = entries_stop c.args.level c.args.flags.now c.args.base c.loop-r.r c.args.n c.loop-r-test.true (c.if-not-stencil_row.true) c.loop-r.invariant.1.1 c.stencil_row.ensures
-
-pub loop-r-preserved : goal.loop-r-preserved
-loop-r-preserved c = (omega arith, (search rules, entries_next c.args.level c.args.flags.now c.args.base c.loop-r.r (c.if-not-stencil_row.false) c.loop-r.invariant.1.1 c.stencil_row.ensures))
+pub renew_each-requires-clause-takes : goal.renew_each-requires-clause-takes
+renew_each-requires-clause-takes c = λ xs r k h. record {
+  taken = λ p e.
+      let b : r < edges_on (full_lattice c.args.l c.args.st.now) c.args.level = omega (arith, h, c.requires.n_value) in
+      let q : 2 * (c.args.o.k + operator_count (full_lattice c.args.l c.args.st.now) c.args.choice c.args.level) ≤ length p.now = omega (arith, k, ap length e, c.requires.level_in_bounds) in
+      let w : Limits c.args.l.grid × (StencilRule (full_lattice c.args.l c.args.st.now) c.args.choice c.args.m c.args.level (full_lattice c.args.own c.args.stretches.now) c.args.from
+      × (((c.args.from ≤ 2 ^ 32) × (2 * (c.args.from + edges_on (full_lattice c.args.l c.args.st.now) c.args.level) ≤ length c.args.eps.now))
+      × (OperatorStarts (full_lattice c.args.l c.args.st.now) c.args.choice c.args.m c.args.level c.args.o c.args.ostarts.now
+      × ((2 * (c.args.o.k + operator_count (full_lattice c.args.l c.args.st.now) c.args.choice c.args.level) ≤ length p.now) × (r < edges_on (full_lattice c.args.l c.args.st.now) c.args.level))))) =
+      (c.requires.limits, (c.requires.stencil_rule, (c.requires.from_bound, (c.requires.operator_starts, (q, b))))) in
+      λ κs a b' d. search w;
+}
 
 pub returns : goal.returns
-returns c = entries_end c.args.level c.args.flags.now c.args.base c.loop-r.r c.args.n c.loop-r.invariant.0 c.loop-r-test.false c.loop-r.invariant.1.1
+returns c = record {
+  each = λ x f t w.
+      each_renewed _ _ (full_lattice c.args.l c.args.st.now) c.args.choice c.args.m x (operator c.args.level) c.args.flags.now c.args.base c.args.n (λ (ov : List Float). five c.args.eps.now f t ov w) c.args.ovalues.now
+      (λ r zs b ys h k g.
+      let z = g.met in
+      let y : EntryMade (full_lattice c.args.l c.args.st.now) c.args.choice c.args.m (operator c.args.level r) c.args.eps.now g.shown.now b g.left.now = search rules in
+      rw (← g.shows, ← g.leaves) (y.each x f t w))
+      c.args.level (λ r. refl) c.renew_each.result c.renew_each.new.list c.renew_each.ensures;
+}

@@ -1,8 +1,14 @@
-use mathlib.Core.Path.{refl}
 use native.Mathlib.Omega.{arith}
-use borrow.Author.Rules.{rules}
+use Rattle.std.proofs.Common.{rules, ap, ◌<◌, suc, length, refl}
+use Rattle.lattice.specs.Lattice.{full_lattice}
+use Rattle.operators.specs.LevelLists.{edges_on}
+use Rattle.operators.proofs.RangeLaws.{edges_few}
+use Rattle.store.specs.declared.Choice.TheVariants.{Rediscretized}
+use Rattle.store.specs.Parts.{row_by}
+use Rattle.store.specs.Flagged.{Made, with_eps}
 use Rattle.store.proofs.LineLaws.{lines_paired, lines_limits, edges_are}
-use Rattle.store.proofs.RenewTransferLaws.{pair_at_lem, flag_small, flag_there, rows_none, rows_go, rows_stop, rows_end, averaged_places, averaged_sized}
+use Rattle.store.proofs.RenewTransferLaws.{pair_at_lem, averaged_places, averaged_sized}
+use Rattle.renew.proofs.EachLaws.{part_renewed, flags_lie}
 use Rattle.renew.proofs.renew_transfer.averaged_part.Goals as goal
 
 pub nodes-nn-requires : goal.nodes-nn-requires
@@ -11,36 +17,26 @@ nodes-nn-requires c = lines_paired _ c.requires.limits _ c.requires.has_lines c.
 pub edges-n-requires : goal.edges-n-requires
 edges-n-requires c = lines_limits _ _ c.requires.has_lines c.requires.level_lt_m.0 (omega arith) c.three-coarse.ensures c.requires.limits
 
-pub loop-r-init : goal.loop-r-init
-loop-r-init c = (omega arith, refl, rows_none _ 1 _ _ _)
+pub renew_each-requires-clause-flags_there : goal.renew_each-requires-clause-flags_there
+renew_each-requires-clause-flags_there c =
+    let n = edges_are _ _ c.requires.has_lines c.requires.level_lt_m.0 (omega arith) c.three-coarse.ensures c.edges-n.ensures in
+    flags_lie c.args.level 1 _ (omega arith) c.requires.part_flags (averaged_sized _ _ n) (omega (arith, n, edges_few (full_lattice c.args.l c.args.st.now) c.requires.limits (suc c.args.level)))
 
-pub overflow_add-base : goal.overflow_add-base
-overflow_add-base c = omega (arith, flag_small _ 1 _ (omega arith) c.requires.part_flags (averaged_sized _ _ (edges_are _ _ c.requires.has_lines c.requires.level_lt_m.0 (omega arith) c.three-coarse.ensures c.edges-n.ensures)) _ c.requires.limits (edges_are _ _ c.requires.has_lines c.requires.level_lt_m.0 (omega arith) c.three-coarse.ensures c.edges-n.ensures) _ c.loop-r-test.true)
-
-pub averaged_row-requires-clause-pair_at : goal.averaged_row-requires-clause-pair_at
-averaged_row-requires-clause-pair_at c = let q = averaged_places _ c.requires.limits _ c.requires.level_lt_m c.requires.from_value c.loop-r.eps (omega (arith, c.loop-r.invariant.1, c.requires.m_in_bounds)) in
-    pair_at_lem _ c.requires.limits _ c.requires.has_lines c.requires.level_lt_m.0 c.three-fine.ensures c.three-coarse.ensures c.nodes-nn.ensures
-
-pub averaged_row-requires-clause-q_bound : goal.averaged_row-requires-clause-q_bound
-averaged_row-requires-clause-q_bound c = let q = averaged_places _ c.requires.limits _ c.requires.level_lt_m c.requires.from_value c.loop-r.eps (omega (arith, c.loop-r.invariant.1, c.requires.m_in_bounds)) in
-    flag_there _ 1 _ (omega arith) c.requires.part_flags (averaged_sized _ _ (edges_are _ _ c.requires.has_lines c.requires.level_lt_m.0 (omega arith) c.three-coarse.ensures c.edges-n.ensures)) _ c.loop-r-test.true
-
-pub averaged_row-requires-clause-chain_room : goal.averaged_row-requires-clause-chain_room
-averaged_row-requires-clause-chain_room c = let q = averaged_places _ c.requires.limits _ c.requires.level_lt_m c.requires.from_value c.loop-r.eps (omega (arith, c.loop-r.invariant.1, c.requires.m_in_bounds)) in
-    q
-
-pub averaged_row-requires-clause-from_value : goal.averaged_row-requires-clause-from_value
-averaged_row-requires-clause-from_value c = let q = averaged_places _ c.requires.limits _ c.requires.level_lt_m c.requires.from_value c.loop-r.eps (omega (arith, c.loop-r.invariant.1, c.requires.m_in_bounds)) in
-    (c.requires.from_value.0, c.requires.from_value.1, omega (arith, (edges_are _ _ c.requires.has_lines c.requires.level_lt_m.0 (omega arith) c.three-coarse.ensures c.edges-n.ensures), c.loop-r-test.true))
-
-pub overflow_add-result : goal.overflow_add-result
-overflow_add-result c = omega (arith, c.requires.level_lt_m)
-
-pub returns-then-not-averaged_row : goal.returns-then-not-averaged_row
-returns-then-not-averaged_row c = rows_stop _ 1 _ _ _ c.loop-r.invariant.2 _ (omega arith) c.requires.part_flags (averaged_sized _ _ (edges_are _ _ c.requires.has_lines c.requires.level_lt_m.0 (omega arith) c.three-coarse.ensures c.edges-n.ensures)) c.loop-r-test.true (c.if-not-averaged_row.true) c.averaged_row.ensures
-
-pub loop-r-preserved : goal.loop-r-preserved
-loop-r-preserved c = (omega (arith, c.loop-r-test.true), search rules, rows_go _ 1 _ _ _ c.loop-r.invariant.2 (c.if-not-averaged_row.false) c.averaged_row.ensures)
+pub renew_each-requires-clause-takes : goal.renew_each-requires-clause-takes
+renew_each-requires-clause-takes c = λ xs r k h. record {
+  taken = λ p e.
+      let q = averaged_places (full_lattice c.args.l c.args.st.now) c.requires.limits c.args.m c.requires.level_lt_m c.requires.from_value p.now (omega (arith, k, ap length e, c.requires.m_in_bounds)) in
+      let y = pair_at_lem _ c.requires.limits _ c.requires.has_lines c.requires.level_lt_m.0 c.three-fine.ensures c.three-coarse.ensures c.nodes-nn.ensures in
+      let n = edges_are _ _ c.requires.has_lines c.requires.level_lt_m.0 (omega arith) c.three-coarse.ensures c.edges-n.ensures in
+      let b : r < edges_on (full_lattice c.args.l c.args.st.now) (suc c.args.level) = omega (arith, h, n) in
+      λ κs a b' d. search (y, q, c.requires.from_value.0, c.requires.from_value.1, b);
+}
 
 pub returns : goal.returns
-returns c = rows_end _ 1 _ _ _ c.loop-r.invariant.2 _ (omega arith) c.requires.part_flags (averaged_sized _ _ (edges_are _ _ c.requires.has_lines c.requires.level_lt_m.0 (omega arith) c.three-coarse.ensures c.edges-n.ensures)) c.loop-r.invariant.0 (omega (arith, c.loop-r-test.false))
+returns c =
+    let n = edges_are _ _ c.requires.has_lines c.requires.level_lt_m.0 (omega arith) c.three-coarse.ensures c.edges-n.ensures in
+    part_renewed c.args.level 1 _ (omega arith) c.requires.part_flags (averaged_sized _ _ n) refl c.renew_each.result c.renew_each.ensures with_eps
+    (λ r zs b ys h k g.
+    let z = g.met in
+    let y : Made (full_lattice c.args.l c.args.st.now) Rediscretized c.args.m (row_by 1 c.args.level r) with_eps g.shown.now b g.left.now = search rules in
+    rw (← g.shows, ← g.leaves) y)

@@ -1,11 +1,7 @@
 -- `store::renew_transfer::averaged_row` meets its contract. The lines are those of the two levels.
 -- Assumes nothing.
-use mathlib.Core.Path.{sym, ◌∙◌}
-use Rattle.store.proofs.RenewTransferLaws.{taken_left, averaged_asked, averaged_done}
+use Rattle.store.proofs.RenewTransferLaws.{averaged_asked, averaged_done}
 use Rattle.renew.proofs.renew_transfer.averaged_row.Goals as goal
-
-pub returns-then-not-flag : goal.returns-then-not-flag
-returns-then-not-flag c = taken_left _ _ _ _ _ _ _ _ (sym c.flag.ensures ∙ c.if-not-flag.true)
 
 pub averaged_row-requires-clause-paired_lines : goal.averaged_row-requires-clause-paired_lines
 averaged_row-requires-clause-paired_lines c = (averaged_asked c.requires.pair_at _ c.requires.chain_room (c.requires.from_value.0, c.requires.from_value.1) c.requires.from_value.2).0
@@ -20,4 +16,4 @@ pub averaged_row-requires-clause-chain_room : goal.averaged_row-requires-clause-
 averaged_row-requires-clause-chain_room c = (averaged_asked c.requires.pair_at _ c.requires.chain_room (c.requires.from_value.0, c.requires.from_value.1) c.requires.from_value.2).1.1.1
 
 pub returns : goal.returns
-returns c = averaged_done c.requires.pair_at _ c.requires.chain_room (c.requires.from_value.0, c.requires.from_value.1) c.requires.from_value.2 _ _ _ (sym c.flag.ensures ∙ c.if-not-flag.false) c.averaged_row.ensures.eps_after c.averaged_row.ensures.value
+returns c = averaged_done c.requires.pair_at _ c.requires.chain_room (c.requires.from_value.0, c.requires.from_value.1) c.requires.from_value.2 _ c.averaged_row.ensures.eps_after c.averaged_row.ensures.value

@@ -1,11 +1,7 @@
 -- `store::renew_transfer::coarse_row` meets its contract. The grids are those of the two levels.
 -- Assumes nothing.
-use mathlib.Core.Path.{sym, ◌∙◌}
-use Rattle.store.proofs.RenewTransferLaws.{taken_left, coarse_asked, coarse_done}
+use Rattle.store.proofs.RenewTransferLaws.{coarse_asked, coarse_done}
 use Rattle.renew.proofs.renew_transfer.coarse_row.Goals as goal
-
-pub returns-then-not-flag : goal.returns-then-not-flag
-returns-then-not-flag c = taken_left _ _ _ _ _ _ _ _ (sym c.flag.ensures ∙ c.if-not-flag.true)
 
 pub coarse_eps_row-requires-clause-limits : goal.coarse_eps_row-requires-clause-limits
 coarse_eps_row-requires-clause-limits c = (coarse_asked c.requires.pair_at c.requires.chain_room (c.requires.from_value.0, c.requires.from_value.1) c.grid_of-gf.ensures c.grid_of-gc.ensures c.requires.from_value.2).0
@@ -20,4 +16,4 @@ pub coarse_eps_row-requires-clause-r_bound : goal.coarse_eps_row-requires-clause
 coarse_eps_row-requires-clause-r_bound c = (coarse_asked c.requires.pair_at c.requires.chain_room (c.requires.from_value.0, c.requires.from_value.1) c.grid_of-gf.ensures c.grid_of-gc.ensures c.requires.from_value.2).1.1.1
 
 pub returns : goal.returns
-returns c = coarse_done c.requires.pair_at c.requires.chain_room (c.requires.from_value.0, c.requires.from_value.1) c.grid_of-gf.ensures c.grid_of-gc.ensures c.requires.from_value.2 _ _ _ _ (sym c.flag.ensures ∙ c.if-not-flag.false) c.coarse_eps_row.ensures.eps_after c.coarse_eps_row.ensures.value
+returns c = λ ch m. coarse_done c.requires.pair_at c.requires.chain_room (c.requires.from_value.0, c.requires.from_value.1) c.grid_of-gf.ensures c.grid_of-gc.ensures c.requires.from_value.2 ch m c.coarse_eps_row.ensures.eps_after c.coarse_eps_row.ensures.value

@@ -12,9 +12,6 @@ use Rattle.renew.proofs.renew_transfer.forward_part.Goals as goal
 pub three-fine-requires : goal.three-fine-requires
 three-fine-requires c = omega (arith, c.requires.level_lt_m)
 
-pub overflow_add-level : goal.overflow_add-level
-overflow_add-level c = omega (arith, c.requires.level_lt_m)
-
 pub three-coarse-requires : goal.three-coarse-requires
 three-coarse-requires c = omega (arith, c.requires.level_lt_m)
 

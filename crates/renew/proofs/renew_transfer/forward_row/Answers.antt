@@ -1,16 +1,9 @@
 -- `store::renew_transfer::forward_row` meets its contract. The start of the row stands in the list.
 -- Assumes nothing.
-use mathlib.Core.Path.{sym, ◌∙◌}
 use native.Mathlib.Omega.{arith}
 use Rattle.lattice.specs.Lattice.{full_lattice}
-use Rattle.store.proofs.RenewTransferLaws.{taken_left, start_small, forward_asked, forward_done}
+use Rattle.store.proofs.RenewTransferLaws.{start_small, forward_asked, forward_done}
 use Rattle.renew.proofs.renew_transfer.forward_row.Goals as goal
-
-pub flag-requires : goal.flag-requires
-flag-requires c = c.requires.q_bound
-
-pub returns-then-not-flag : goal.returns-then-not-flag
-returns-then-not-flag c = taken_left _ _ _ _ _ _ _ _ (sym c.flag.ensures ∙ c.if-not-flag.true)
 
 pub overflow_add-first : goal.overflow_add-first
 overflow_add-first c = omega (arith, c.requires.starts_at.starts_low, c.requires.k_value.1)
@@ -34,4 +27,4 @@ pub weights_row-requires-clause-at_bound : goal.weights_row-requires-clause-at_b
 weights_row-requires-clause-at_bound c = (forward_asked (full_lattice c.args.l c.args.st.now) c.args.level c.requires.starts_at c.requires.k_value.1 c.requires.weights_ready c.args.values.now (c.requires.k_value.0, c.requires.k_value.2, c.requires.k_value.3)).1.1
 
 pub returns : goal.returns
-returns c = forward_done (full_lattice c.args.l c.args.st.now) c.args.level c.requires.starts_at c.requires.k_value.1 c.requires.weights_ready c.args.values.now (c.requires.k_value.0, c.requires.k_value.2, c.requires.k_value.3) _ _ _ _ (sym c.flag.ensures ∙ c.if-not-flag.false) c.weights_row.ensures
+returns c = λ ch m. forward_done (full_lattice c.args.l c.args.st.now) c.args.level c.requires.starts_at c.requires.k_value.1 c.requires.weights_ready c.args.values.now (c.requires.k_value.0, c.requires.k_value.2, c.requires.k_value.3) ch m c.weights_row.ensures

@@ -1,14 +1,7 @@
 -- `store::renew_transfer::turned_row` meets its contract. The rows stand in the lists.
 -- Assumes nothing.
-use mathlib.Core.Path.{sym, ◌∙◌}
-use Rattle.store.proofs.RenewTransferLaws.{taken_left, turned_asked, turned_done}
+use Rattle.store.proofs.RenewTransferLaws.{turned_asked, turned_done}
 use Rattle.renew.proofs.renew_transfer.turned_row.Goals as goal
-
-pub flag-requires : goal.flag-requires
-flag-requires c = c.requires.q_bound
-
-pub returns-then-not-flag : goal.returns-then-not-flag
-returns-then-not-flag c = taken_left _ _ _ _ _ _ _ _ (sym c.flag.ensures ∙ c.if-not-flag.true)
 
 pub turned_row-requires-clause-by_index : goal.turned_row-requires-clause-by_index
 turned_row-requires-clause-by_index c = (turned_asked c.requires.turned_ready _ c.requires.level_bound.1 c.args.tvalues.now c.requires.level_bound.0 c.requires.level_bound.2).0
@@ -17,4 +10,4 @@ pub turned_row-requires-clause-c_bound : goal.turned_row-requires-clause-c_bound
 turned_row-requires-clause-c_bound c = (turned_asked c.requires.turned_ready _ c.requires.level_bound.1 c.args.tvalues.now c.requires.level_bound.0 c.requires.level_bound.2).1
 
 pub returns : goal.returns
-returns c = turned_done c.requires.turned_ready _ c.requires.level_bound.1 c.args.tvalues.now c.requires.level_bound.0 c.requires.level_bound.2 _ _ _ _ (sym c.flag.ensures ∙ c.if-not-flag.false) c.turned_row.ensures
+returns c = λ ch m. turned_done c.requires.turned_ready _ c.requires.level_bound.1 c.args.tvalues.now c.requires.level_bound.0 c.requires.level_bound.2 ch m c.turned_row.ensures

@@ -6,26 +6,8 @@ use Rattle.store.proofs.SizeLaws.{edges_few}
 use Rattle.store.proofs.MarkLaws.{shaping_start, shaping_scale, shaping_base, shaping_fits, shaping_next, shaping_end}
 use Rattle.renew.proofs.shape.set_shape.Goals as goal
 
-pub sole_rows-n-requires-clause-limits : goal.sole_rows-n-requires-clause-limits
-sole_rows-n-requires-clause-limits c = c.requires.limits
-
-pub sole_rows-n-requires-clause-m_bound : goal.sole_rows-n-requires-clause-m_bound
-sole_rows-n-requires-clause-m_bound c = c.requires.m_bound
-
-pub sole_rows-n-requires-clause-has_lines : goal.sole_rows-n-requires-clause-has_lines
-sole_rows-n-requires-clause-has_lines c = c.requires.has_lines
-
 pub set_part-requires : goal.set_part-requires
 set_part-requires c = (omega arith, omega (arith, c.requires.shape_len))
-
-pub first_marks-k-requires-clause-limits : goal.first_marks-k-requires-clause-limits
-first_marks-k-requires-clause-limits c = c.requires.limits
-
-pub first_marks-k-requires-clause-m_bound : goal.first_marks-k-requires-clause-m_bound
-first_marks-k-requires-clause-m_bound c = c.requires.m_bound
-
-pub first_marks-k-requires-clause-has_lines : goal.first_marks-k-requires-clause-has_lines
-first_marks-k-requires-clause-has_lines c = c.requires.has_lines
 
 pub loop-level-init : goal.loop-level-init
 loop-level-init c =
@@ -33,26 +15,8 @@ loop-level-init c =
     let f = full_lattice a.l a.st.now in
     shaping_start f a.choice a.m c.first_marks-k.result c.sole_rows-n.result a.shape.now _ c.sole_rows-n.ensures c.requires.shape_len c.set_part.ensures c.first_marks-k.ensures
 
-pub level_edges-fine-requires-clause-limits : goal.level_edges-fine-requires-clause-limits
-level_edges-fine-requires-clause-limits c = c.requires.limits
-
-pub level_edges-fine-requires-clause-level_le_m : goal.level_edges-fine-requires-clause-level_le_m
-level_edges-fine-requires-clause-level_le_m c = (omega arith, c.requires.m_bound)
-
-pub level_edges-fine-requires-clause-has_lines : goal.level_edges-fine-requires-clause-has_lines
-level_edges-fine-requires-clause-has_lines c = c.requires.has_lines
-
 pub overflow_add-level : goal.overflow_add-level
 overflow_add-level c = omega (arith, c.loop-level-test.true, c.requires.m_bound)
-
-pub level_edges-coarse-requires-clause-limits : goal.level_edges-coarse-requires-clause-limits
-level_edges-coarse-requires-clause-limits c = c.requires.limits
-
-pub level_edges-coarse-requires-clause-level_le_m : goal.level_edges-coarse-requires-clause-level_le_m
-level_edges-coarse-requires-clause-level_le_m c = (omega arith, c.requires.m_bound)
-
-pub level_edges-coarse-requires-clause-has_lines : goal.level_edges-coarse-requires-clause-has_lines
-level_edges-coarse-requires-clause-has_lines c = c.requires.has_lines
 
 pub overflow_mul-level : goal.overflow_mul-level
 overflow_mul-level c = omega (arith, c.loop-level-test.true, c.requires.m_bound)

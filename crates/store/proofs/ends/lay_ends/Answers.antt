@@ -1,16 +1,28 @@
+use Prim.Native.Nat.{◌+◌, ◌*◌, ◌<◌}
+use mathlib.Core.Path.{◌≡◌}
 use native.Mathlib.Omega.{arith}
+use lib.ListN.{length}
+use lib.Seq.{get_or-take}
+use Rattle.std.proofs.Common.{rules, length-take}
 use Rattle.numbers.proofs.ListLaws.{laying_start, laying_turn}
+use Rattle.store.specs.Phases.{blank_line}
 use Rattle.store.proofs.EndLaws.{ends_low, ends_left_lem}
 use Rattle.store.proofs.ends.lay_ends.Goals as goal
 
-pub loop-q-init : goal.loop-q-init
-loop-q-init c = laying_start
+pub loop-f-init : goal.loop-f-init
+loop-f-init c = laying_start
 
 pub lay_line-next-requires : goal.lay_line-next-requires
-lay_line-next-requires c = ends_low c.requires.few_cells c.loop-q.invariant c.requires.m_bound c.loop-q-test.true
+lay_line-next-requires c =
+    let h : c.loop-f.f-index < 3 * (c.args.m + 1) = omega (arith, length-take (3 * (c.args.m + 1)) c.args.lines) in
+    rw (get_or-take (3 * (c.args.m + 1)) c.args.lines c.loop-f.f-index blank_line h) (ends_low c.requires.few_cells c.loop-f.invariant c.requires.m_bound h)
 
-pub loop-q-preserved : goal.loop-q-preserved
-loop-q-preserved c = laying_turn c.loop-q.invariant (omega arith) c.lay_line-next.ensures
+pub loop-f-preserved : goal.loop-f-preserved
+loop-f-preserved c =
+    let h : c.loop-f.f-index < 3 * (c.args.m + 1) = omega (arith, length-take (3 * (c.args.m + 1)) c.args.lines) in
+    laying_turn c.loop-f.invariant h (simp (get_or-take (3 * (c.args.m + 1)) c.args.lines c.loop-f.f-index blank_line h) at c.lay_line-next.ensures)
 
 pub returns : goal.returns
-returns c = ends_left_lem c.requires.few_cells c.loop-q.invariant c.loop-q-test.false
+returns c =
+    let e : length c.args.lines ≡ 36 = search rules in
+    ends_left_lem c.requires.few_cells c.loop-f.invariant (omega (arith, length-take (3 * (c.args.m + 1)) c.args.lines))

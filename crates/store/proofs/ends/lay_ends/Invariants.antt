@@ -1,4 +1,4 @@
--- `store::ends::lay_ends` meets its contract. The invariant: the ends of the first q lines are laid, one line behind another.
+-- `store::ends::lay_ends` meets its contract. The invariant: the ends of the lines passed are laid, one line behind another.
 -- Assumes nothing.
 use Prim.Native.Nat.{◌+◌, ◌*◌}
 use lib.ListN.{set, get_or}
@@ -7,5 +7,5 @@ use Rattle.store.specs.Phases.{blank_line}
 use Rattle.store.specs.PhaseSteps.{held_by}
 use Rattle.store.proofs.ends.lay_ends.Given as goal
 
-abbrev pub invariant-loop-q : goal.invariant-loop-q
-invariant-loop-q l = Laying set (λ q. held_by (get_or l.lines q blank_line)) (3 * (l.m + 1)) 0 l.initial.ends l.ends l.next l.q
+abbrev pub invariant-loop-f : goal.invariant-loop-f
+invariant-loop-f l = Laying set (λ q. held_by (get_or l.fn.lines q blank_line)) (3 * (l.fn.m + 1)) 0 l.initial.ends l.ends l.next l.f-index

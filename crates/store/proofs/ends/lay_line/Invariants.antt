@@ -1,4 +1,4 @@
--- `store::ends::lay_line` meets its contract. The invariant: the first m ends are laid.
+-- `store::ends::lay_line` meets its contract. The invariant: the first ends are laid.
 -- Assumes nothing.
 use lib.ListN.{set}
 use Rattle.numbers.specs.Lists.{entry_at}
@@ -6,5 +6,5 @@ use Rattle.numbers.proofs.ListLaws.{Laying}
 use Rattle.numbers.proofs.ElementLaws.{alone}
 use Rattle.store.proofs.ends.lay_line.Given as goal
 
-abbrev pub invariant-loop-m : goal.invariant-loop-m
-invariant-loop-m l = Laying set (alone (entry_at l.f.ends)) l.n l.k l.initial.ends l.ends l.next l.m
+abbrev pub invariant-loop-end : goal.invariant-loop-end
+invariant-loop-end l = Laying set (alone (entry_at l.fn.f.ends)) l.n l.k l.initial.ends l.ends l.next l.end-index

@@ -4,8 +4,5 @@ use mathlib.Core.Path.{ap, ◌∙◌}
 use Rattle.lattice.specs.Grid.{unknowns_of}
 use Rattle.store.proofs.lines.edges.Goals as goal
 
-pub unknowns-requires : goal.unknowns-requires
-unknowns-requires c = rw c.grid_of.ensures c.requires
-
 pub returns : goal.returns
 returns c = c.unknowns.ensures ∙ ap unknowns_of c.grid_of.ensures

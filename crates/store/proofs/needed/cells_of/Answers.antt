@@ -1,16 +1,10 @@
-use mathlib.Core.Path.{◌≡◌, refl}
-use native.Mathlib.Omega.{arith}
-use Rattle.numbers.proofs.TabulateLaws.{filled_start, filled_turn, filled_whole}
+-- `store::needed::cells_of` meets its contract.
+-- Assumes nothing.
+use Rattle.std.proofs.Common.{rules}
+use Rattle.numbers.proofs.TabulateLaws.{is_tabulate}
+use Rattle.store.specs.Needed.{line_cells}
+use Rattle.store.specs.Phases.{blank_line}
 use Rattle.store.proofs.needed.cells_of.Goals as goal
 
-pub loop-q-init : goal.loop-q-init
-loop-q-init c = (omega arith, filled_start)
-
-pub loop-q-preserved : goal.loop-q-preserved
-loop-q-preserved c = (omega arith, filled_turn c.loop-q.invariant.1 c.loop-q-test.true refl)
-
 pub returns : goal.returns
-returns c =
-    let l = c.loop-q in
-    let e : l.q ≡ 36 = omega arith in
-    filled_whole (rw e at l.invariant.1)
+returns c = is_tabulate (line_cells c.args.lines) 36 0 c.map.result c.map.ensures.items.long (λ i b. let w = c.map.ensures.items.at i blank_line 0 b in search rules)

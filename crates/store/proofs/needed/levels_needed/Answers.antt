@@ -4,12 +4,6 @@ use Rattle.store.proofs.LineLaws.{lines_of}
 use Rattle.store.proofs.NeededLaws.{needed_all}
 use Rattle.store.proofs.needed.levels_needed.Goals as goal
 
-pub count-requires-clause-limits : goal.count-requires-clause-limits
-count-requires-clause-limits c = c.requires.limits
-
-pub count-requires-clause-m_bound : goal.count-requires-clause-m_bound
-count-requires-clause-m_bound c = c.requires.m_bound
-
 pub count-requires-clause-has_lines : goal.count-requires-clause-has_lines
 count-requires-clause-has_lines c = lines_of _ _ c.requires.lines_value c.requires.m_bound
 

@@ -4,33 +4,6 @@ use native.Mathlib.Omega.{arith}
 use Rattle.store.proofs.NeedLaws.{sums_few, only_few, needs_are}
 use Rattle.store.proofs.needs.count.Goals as goal
 
-pub edges_from-first-requires-clause-limits : goal.edges_from-first-requires-clause-limits
-edges_from-first-requires-clause-limits c = c.requires.limits
-
-pub edges_from-first-requires-clause-n_bound : goal.edges_from-first-requires-clause-n_bound
-edges_from-first-requires-clause-n_bound c = (omega arith, c.requires.m_bound)
-
-pub edges_from-first-requires-clause-has_lines : goal.edges_from-first-requires-clause-has_lines
-edges_from-first-requires-clause-has_lines c = c.requires.has_lines
-
-pub edges_from-fine-requires-clause-limits : goal.edges_from-fine-requires-clause-limits
-edges_from-fine-requires-clause-limits c = c.requires.limits
-
-pub edges_from-fine-requires-clause-n_bound : goal.edges_from-fine-requires-clause-n_bound
-edges_from-fine-requires-clause-n_bound c = (omega arith, c.requires.m_bound)
-
-pub edges_from-fine-requires-clause-has_lines : goal.edges_from-fine-requires-clause-has_lines
-edges_from-fine-requires-clause-has_lines c = c.requires.has_lines
-
-pub edges_from-coarse-requires-clause-limits : goal.edges_from-coarse-requires-clause-limits
-edges_from-coarse-requires-clause-limits c = c.requires.limits
-
-pub edges_from-coarse-requires-clause-n_bound : goal.edges_from-coarse-requires-clause-n_bound
-edges_from-coarse-requires-clause-n_bound c = (omega arith, c.requires.m_bound)
-
-pub edges_from-coarse-requires-clause-has_lines : goal.edges_from-coarse-requires-clause-has_lines
-edges_from-coarse-requires-clause-has_lines c = c.requires.has_lines
-
 pub overflow_add-result : goal.overflow_add-result
 overflow_add-result c = omega (arith, sums_few _ _ c.edges_from-first.ensures c.edges_from-fine.ensures c.edges_from-coarse.ensures c.requires.limits c.requires.m_bound)
 

@@ -4,6 +4,6 @@ use Rattle.numbers.proofs.SumLaws.{Summing}
 use Rattle.store.proofs.NeedLaws.{ends_in_lem}
 use Rattle.store.proofs.needs.line_ends.Given as goal
 
-abbrev pub invariant-loop-q : goal.invariant-loop-q
-invariant-loop-q l =
-    Summing (ends_in_lem l.lines) l.n l.q l.total
+abbrev pub invariant-loop-f : goal.invariant-loop-f
+invariant-loop-f l =
+    Summing (ends_in_lem l.fn.lines) l.n l.f-index l.total

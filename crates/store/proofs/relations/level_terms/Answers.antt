@@ -12,8 +12,5 @@ use Rattle.store.proofs.relations.level_terms.Goals as goal
 pub level_count-requires-clause-limits : goal.level_count-requires-clause-limits
 level_count-requires-clause-limits c = rw c.grid_of-g.ensures (lines_limits _ _ c.requires.has_lines c.requires.level_le_m.0 refl c.three.ensures c.requires.limits)
 
-pub level_count-requires-clause-t_len : goal.level_count-requires-clause-t_len
-level_count-requires-clause-t_len c = c.requires.u_len
-
 pub returns : goal.returns
 returns c = c.level_count.ensures ∙ ap (λ (g : Grid3d). start_of (pattern_row (full_lattice c.args.l c.args.st.now) g c.args.u.now) (unknowns_of g)) (grid_is _ _ c.requires.has_lines c.requires.level_le_m.0 refl c.three.ensures c.grid_of-g.ensures)

@@ -5,33 +5,6 @@ use Rattle.operators.proofs.RediscretizedLists.{both_finite, one_not}
 use Rattle.store.proofs.ScalingLaws.{place_asked, sum_low, shares_asked, scale_done}
 use Rattle.store.proofs.scaling.level_scaling.Goals as goal
 
-pub level_edges-n-requires-clause-limits : goal.level_edges-n-requires-clause-limits
-level_edges-n-requires-clause-limits c = c.requires.limits
-
-pub level_edges-n-requires-clause-level_le_m : goal.level_edges-n-requires-clause-level_le_m
-level_edges-n-requires-clause-level_le_m c = (omega (arith, c.requires.level_lt_m), c.requires.level_lt_m.1)
-
-pub level_edges-n-requires-clause-has_lines : goal.level_edges-n-requires-clause-has_lines
-level_edges-n-requires-clause-has_lines c = c.requires.has_lines
-
-pub level_edges-c-requires-clause-limits : goal.level_edges-c-requires-clause-limits
-level_edges-c-requires-clause-limits c = c.requires.limits
-
-pub level_edges-c-requires-clause-level_le_m : goal.level_edges-c-requires-clause-level_le_m
-level_edges-c-requires-clause-level_le_m c = (omega (arith, c.requires.level_lt_m), c.requires.level_lt_m.1)
-
-pub level_edges-c-requires-clause-has_lines : goal.level_edges-c-requires-clause-has_lines
-level_edges-c-requires-clause-has_lines c = c.requires.has_lines
-
-pub level_volumes-known-requires-clause-limits : goal.level_volumes-known-requires-clause-limits
-level_volumes-known-requires-clause-limits c = c.requires.limits
-
-pub level_volumes-known-requires-clause-level_lt_m : goal.level_volumes-known-requires-clause-level_lt_m
-level_volumes-known-requires-clause-level_lt_m c = c.requires.level_lt_m
-
-pub level_volumes-known-requires-clause-has_lines : goal.level_volumes-known-requires-clause-has_lines
-level_volumes-known-requires-clause-has_lines c = c.requires.has_lines
-
 pub level_volumes-known-requires-clause-k_bound : goal.level_volumes-known-requires-clause-k_bound
 level_volumes-known-requires-clause-k_bound c = place_asked _ c.requires.limits _ _ c.requires.level_lt_m c.requires.turned_stored c.requires.t_value c.level_edges-n.ensures c.level_edges-c.ensures c.requires.scaling_room
 

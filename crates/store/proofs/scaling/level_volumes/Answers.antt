@@ -13,14 +13,8 @@ volumes-requires-clause-k_bound c = (volumes_asked _ c.requires.limits _ (lattic
 pub returns-then-level-eq0 : goal.returns-then-level-eq0
 returns-then-level-eq0 c = volumes_left _ c.requires.limits _ (lattice_zero _ c.requires.limits _ c.if-level-eq0.true) c.args.k (c.volumes.ensures.scaling_after, c.volumes.ensures.value)
 
-pub rediscretized_lattice-own-requires-clause-limits : goal.rediscretized_lattice-own-requires-clause-limits
-rediscretized_lattice-own-requires-clause-limits c = c.requires.limits
-
 pub rediscretized_lattice-own-requires-clause-held_three : goal.rediscretized_lattice-own-requires-clause-held_three
 rediscretized_lattice-own-requires-clause-held_three c = level_held _ c.requires.limits _ _ c.requires.level_lt_m c.requires.has_lines c.three-s.ensures
-
-pub rediscretized_stretches-stretches-requires-clause-limits : goal.rediscretized_stretches-stretches-requires-clause-limits
-rediscretized_stretches-stretches-requires-clause-limits c = c.requires.limits
 
 pub rediscretized_stretches-stretches-requires-clause-held_three : goal.rediscretized_stretches-stretches-requires-clause-held_three
 rediscretized_stretches-stretches-requires-clause-held_three c = level_held _ c.requires.limits _ _ c.requires.level_lt_m c.requires.has_lines c.three-s.ensures

@@ -10,50 +10,11 @@ edges-n-requires c = lines_limits _ _ c.requires.has_lines {L = 0} (omega arith)
 pub lay_given-requires : goal.lay_given-requires
 lay_given-requires c = given_ready _ c.requires.limits _ c.args.given.now (edges_are _ _ c.requires.has_lines (omega arith) refl c.three.ensures c.edges-n.ensures) c.requires.st_in_bounds c.requires.transfer_room
 
-pub first_offsets-o-requires-clause-limits : goal.first_offsets-o-requires-clause-limits
-first_offsets-o-requires-clause-limits c = c.requires.limits
-
-pub first_offsets-o-requires-clause-has_lines : goal.first_offsets-o-requires-clause-has_lines
-first_offsets-o-requires-clause-has_lines c = c.requires.has_lines
-
 pub loop-level-init : goal.loop-level-init
 loop-level-init c = moving_start _ _ _ c.requires.transfer_room (edges_are _ _ c.requires.has_lines (omega arith) refl c.three.ensures c.edges-n.ensures) c.lay_given.ensures c.first_offsets-o.ensures
 
-pub level_transfer-ok-requires-clause-limits : goal.level_transfer-ok-requires-clause-limits
-level_transfer-ok-requires-clause-limits c = c.requires.limits
-
-pub level_transfer-ok-requires-clause-level_lt_m : goal.level_transfer-ok-requires-clause-level_lt_m
-level_transfer-ok-requires-clause-level_lt_m c = (c.loop-level-test.true, c.requires.m_bound)
-
-pub level_transfer-ok-requires-clause-has_lines : goal.level_transfer-ok-requires-clause-has_lines
-level_transfer-ok-requires-clause-has_lines c = c.requires.has_lines
-
-pub level_transfer-ok-requires-clause-o_value : goal.level_transfer-ok-requires-clause-o_value
-level_transfer-ok-requires-clause-o_value c = c.loop-level.invariant.o_is
-
-pub level_transfer-ok-requires-clause-transfer_room : goal.level_transfer-ok-requires-clause-transfer_room
-level_transfer-ok-requires-clause-transfer_room c = c.loop-level.invariant.room
-
-pub next_offsets-o-requires-clause-limits : goal.next_offsets-o-requires-clause-limits
-next_offsets-o-requires-clause-limits c = c.requires.limits
-
-pub next_offsets-o-requires-clause-level_lt_m : goal.next_offsets-o-requires-clause-level_lt_m
-next_offsets-o-requires-clause-level_lt_m c = (c.loop-level-test.true, c.requires.m_bound)
-
-pub next_offsets-o-requires-clause-has_lines : goal.next_offsets-o-requires-clause-has_lines
-next_offsets-o-requires-clause-has_lines c = c.requires.has_lines
-
-pub next_offsets-o-requires-clause-o_value : goal.next_offsets-o-requires-clause-o_value
-next_offsets-o-requires-clause-o_value c = c.loop-level.invariant.o_is
-
 pub next_offsets-o-requires-clause-level_in_bounds : goal.next_offsets-o-requires-clause-level_in_bounds
 next_offsets-o-requires-clause-level_in_bounds c = moving_count _ _ _ c.loop-level.invariant c.loop-level-test.true c.level_transfer-ok.ensures
-
-pub noted-bad-requires : goal.noted-bad-requires
-noted-bad-requires c = omega (arith, c.loop-level-test.true, c.requires.m_bound)
-
-pub loop-level-smaller : goal.loop-level-smaller
-loop-level-smaller c = omega (arith, c.loop-level-test.true)
 
 pub loop-level-preserved : goal.loop-level-preserved
 loop-level-preserved c = moving_turn _ _ _ c.loop-level.invariant c.loop-level-test.true c.level_transfer-ok.ensures c.next_offsets-o.ensures c.noted-bad.ensures

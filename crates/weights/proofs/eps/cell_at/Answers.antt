@@ -6,9 +6,6 @@ use Rattle.weights.proofs.EpsReads.{ends_index, cell_of}
 use Rattle.weights.proofs.RowLaws.{place_small}
 use Rattle.weights.proofs.eps.cell_at.Goals as goal
 
-pub on_fine-node-requires-clause-nn_len : goal.on_fine-node-requires-clause-nn_len
-on_fine-node-requires-clause-nn_len c = c.requires.limits.1
-
 pub on_fine-node-requires-clause-i_bound : goal.on_fine-node-requires-clause-i_bound
 on_fine-node-requires-clause-i_bound c = place_small c.requires.limits.0 (at_in c.requires.limits.0 c.requires.r_bound c.at-p.ensures)
 

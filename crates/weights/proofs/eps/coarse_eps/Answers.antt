@@ -4,9 +4,6 @@ use Rattle.lattice.specs.Lattice.{full_lattice}
 use Rattle.weights.proofs.EpsLaws.{Chain, chain, fine_in, coarse_in, nested_in, chain_room, eps_laid, eps_room, eps_finite}
 use Rattle.weights.proofs.eps.coarse_eps.Goals as goal
 
-pub nodes-nn-requires : goal.nodes-nn-requires
-nodes-nn-requires c = c.requires.paired
-
 pub all_eps-requires-clause-limits : goal.all_eps-requires-clause-limits
 all_eps-requires-clause-limits c = let levels : let a = c.args in
     Chain (full_lattice a.l a.st.now) a.fine a.coarse c.grid_of-gf.result c.grid_of-gc.result c.nodes-nn.result a.from a.to a.eps.now = chain c.requires.paired c.requires.chain_room c.grid_of-gf.ensures c.grid_of-gc.ensures c.nodes-nn.ensures in

@@ -1,16 +1,7 @@
 use native.Mathlib.Omega.{arith}
 use Rattle.lattice.proofs.GridLaws.{unknowns_most}
-use Rattle.weights.proofs.EpsLaws.{adding_start, adding_turn, adding_end, along_inside, along_low}
+use Rattle.weights.proofs.EpsLaws.{adding_turn, adding_end, along_low}
 use Rattle.weights.proofs.eps.sum_of_inverses.Goals as goal
-
-pub loop-m-init : goal.loop-m-init
-loop-m-init c = adding_start c.zero-sum.ensures
-
-pub index-c-requires-clause-limits : goal.index-c-requires-clause-limits
-index-c-requires-clause-limits c = c.requires.limits
-
-pub index-c-requires-clause-inside : goal.index-c-requires-clause-inside
-index-c-requires-clause-inside c = along_inside c.requires.line_inside c.loop-m-test.true c.moved_to.ensures
 
 pub overflow_add-from : goal.overflow_add-from
 overflow_add-from c =
@@ -23,7 +14,7 @@ get-requires c =
 pub loop-m-preserved : goal.loop-m-preserved
 loop-m-preserved c =
     adding_turn c.loop-m.invariant c.loop-m-test.true c.moved_to.ensures
-    c.index-c.ensures c.get.ensures c.real_over.ensures c.add-sum.ensures
+    c.index-c.ensures c.get.ensures c.div.ensures c.add-sum.ensures
 
 pub returns : goal.returns
 returns c = adding_end c.loop-m.invariant c.loop-m-test.false

@@ -1,14 +1,10 @@
-use native.Mathlib.Omega.{arith}
-use Rattle.weights.proofs.InterpolateLaws.{coordinate_in, coordinate_past, coordinate_place, place_float}
+use Rattle.weights.proofs.InterpolateLaws.{coordinate_in, coordinate_past, coordinate_place}
 use lib.Ieee.{div, of_bits}
 use mathlib.Core.Path.{◌∙◌}
 use Rattle.weights.proofs.interpolate.coordinate.Goals as goal
 
 pub returns-then-p-lt129 : goal.returns-then-p-lt129
 returns-then-p-lt129 c = c.get.ensures ∙ coordinate_in _ _ _ c.in-Pml.is c.if-p-lt129.true
-
-pub int_to_float-result : goal.int_to_float-result
-int_to_float-result c = place_float _ (omega arith)
 
 pub returns-else-p-lt129 : goal.returns-else-p-lt129
 unfolding div of_bits

@@ -10,14 +10,6 @@ use Rattle.weights.proofs.rows.all_columns.Goals as goal
 pub loop-r-init : goal.loop-r-init
 loop-r-init c = (omega (arith, unknowns_most c.requires.limits.0), starting_start, going_start)
 
-pub columns_at-k-requires-clause-limits : goal.columns_at-k-requires-clause-limits
-columns_at-k-requires-clause-limits c = let l = at_low c.requires.limits.0 (omega arith) c.at.ensures in
-    c.requires.limits.1
-
-pub columns_at-k-requires-clause-places_of : goal.columns_at-k-requires-clause-places_of
-columns_at-k-requires-clause-places_of c = let l = at_low c.requires.limits.0 (omega arith) c.at.ensures in
-    c.requires.places_of
-
 pub columns_at-k-requires-clause-component_bound : goal.columns_at-k-requires-clause-component_bound
 columns_at-k-requires-clause-component_bound c = let l = at_low c.requires.limits.0 (omega arith) c.at.ensures in
     (l.c_low, l.k_low)

@@ -8,10 +8,6 @@ use Rattle.weights.proofs.rows.all_numbers.Goals as goal
 pub loop-r-init : goal.loop-r-init
 loop-r-init c = (omega (arith, unknowns_most c.requires.span_of.fine_in), going_start)
 
-pub numbers_at-k-requires-clause-span_of : goal.numbers_at-k-requires-clause-span_of
-numbers_at-k-requires-clause-span_of c = let l = at_low c.requires.span_of.fine_in (omega arith) c.at.ensures in
-    c.requires.span_of
-
 pub numbers_at-k-requires-clause-component_bound : goal.numbers_at-k-requires-clause-component_bound
 numbers_at-k-requires-clause-component_bound c = let l = at_low c.requires.span_of.fine_in (omega arith) c.at.ensures in
     (l.c_low, l.k_low)
@@ -19,10 +15,6 @@ numbers_at-k-requires-clause-component_bound c = let l = at_low c.requires.span_
 pub numbers_at-k-requires-clause-i_bound : goal.numbers_at-k-requires-clause-i_bound
 numbers_at-k-requires-clause-i_bound c = let l = at_low c.requires.span_of.fine_in (omega arith) c.at.ensures in
     (l.i_low, l.j_low)
-
-pub numbers_at-k-requires-clause-from_bound : goal.numbers_at-k-requires-clause-from_bound
-numbers_at-k-requires-clause-from_bound c = let l = at_low c.requires.span_of.fine_in (omega arith) c.at.ensures in
-    omega (arith, c.requires.from_bound)
 
 pub loop-r-preserved : goal.loop-r-preserved
 loop-r-preserved c =

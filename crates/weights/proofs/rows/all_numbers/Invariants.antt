@@ -8,4 +8,4 @@ use Rattle.weights.proofs.rows.all_numbers.Given as goal
 
 abbrev pub invariant-loop-r : goal.invariant-loop-r
 invariant-loop-r l =
-    (l.n ≤ 12288) × Going set_number (numbers_in l.s.fine l.s.coarse (read_from l.eps l.s.feps) (read_from l.eps l.s.ceps) l.ps l.ds l.ns l.xs) (at_of l.s.fine) 8 l.n l.from l.initial.values l.values l.k l.r
+    (l.n ≤ 12288) × Going set_number (numbers_in l.t.span.fine l.t.span.coarse (read_from l.t.eps.now l.t.span.feps) (read_from l.t.eps.now l.t.span.ceps) l.t.places.now l.t.nodes.now l.t.counts.now l.t.pulls.now) (at_of l.t.span.fine) 8 l.n l.from l.initial.values l.values l.k l.r

@@ -1,49 +1,38 @@
-use mathlib.Core.Path.{refl}
 use native.Mathlib.Omega.{arith}
+use Rattle.std.proofs.Common.{rules}
+use Prim.Native.Nat.{◌+◌, ◌*◌, ◌<◌, ◌≤◌, ◌^◌}
+use lib.ListN.{length, get_or}
 use Rattle.lattice.proofs.Equations.{n_of_0}
-use Rattle.weights.specs.Tables.{columns_in}
-use Rattle.weights.proofs.RowLaws.{slot_is, place_on_lem, slot_start, slot_turn, slot_end, columns_y_most}
+use Rattle.weights.specs.Tables.{columns_in, columns_in_y}
+use Rattle.weights.proofs.RowLaws.{place_on_lem, few_at, slot_laid, columns_y_most}
 use Rattle.weights.proofs.rows.columns_at.Goals as goal
 
+pub overflow_mul-q : goal.overflow_mul-q
+overflow_mul-q c = let w = few_at c.args.p c.args.p.i c.requires.places_of c.slot_on-q.ensures (omega arith) (omega arith) in omega arith
+
 pub offset_bounds-ns-q : goal.offset_bounds-ns-q
-offset_bounds-ns-q c =
-    let p = c.args.p in
-    omega (arith, slot_is p 0 p.i c.slot_on-q.ensures (omega arith) (omega arith))
+offset_bounds-ns-q c = let w = few_at c.args.p c.args.p.i c.requires.places_of c.slot_on-q.ensures (omega arith) (omega arith) in omega arith
 
 pub bounds-ns-q : goal.bounds-ns-q
-bounds-ns-q c =
-    let p = c.args.p in
-    omega (arith, slot_is p 0 p.i c.slot_on-q.ensures (omega arith) (omega arith))
+bounds-ns-q c = let w = few_at c.args.p c.args.p.i c.requires.places_of c.slot_on-q.ensures (omega arith) (omega arith) in omega arith
 
-pub loop-d-init : goal.loop-d-init
-loop-d-init c =
-    let p = c.args.p in
-    slot_start p p.i c.requires.places_of c.slot_on-q.ensures (omega arith) (omega arith) refl
+pub lay_each-requires-clause-low : goal.lay_each-requires-clause-low
+lay_each-requires-clause-low c = let w = few_at c.args.p c.args.p.i c.requires.places_of c.slot_on-q.ensures (omega arith) (omega arith) in omega arith
 
-pub columns_y-k-requires-clause-limits : goal.columns_y-k-requires-clause-limits
-columns_y-k-requires-clause-limits c = let h = rw n_of_0 at (place_on_lem c.requires.places_of c.loop-d.invariant.slot c.loop-d-test.true) in
-    c.requires.limits
-
-pub columns_y-k-requires-clause-places_of : goal.columns_y-k-requires-clause-places_of
-columns_y-k-requires-clause-places_of c = let h = rw n_of_0 at (place_on_lem c.requires.places_of c.loop-d.invariant.slot c.loop-d-test.true) in
-    c.requires.places_of
-
-pub columns_y-k-requires-clause-component_bound : goal.columns_y-k-requires-clause-component_bound
-columns_y-k-requires-clause-component_bound c = let h = rw n_of_0 at (place_on_lem c.requires.places_of c.loop-d.invariant.slot c.loop-d-test.true) in
-    c.requires.component_bound
-
-pub columns_y-k-requires-clause-i_lt_nx : goal.columns_y-k-requires-clause-i_lt_nx
-columns_y-k-requires-clause-i_lt_nx c = let h = rw n_of_0 at (place_on_lem c.requires.places_of c.loop-d.invariant.slot c.loop-d-test.true) in
-    (h, omega arith)
-
-pub loop-d-preserved : goal.loop-d-preserved
-loop-d-preserved c =
-    let u = c.loop-d.invariant in
-    let t = c.loop-d-test.true in
-    slot_turn u t refl c.columns_y-k.ensures (columns_y_most c.requires.places_of _ c.requires.i_bound.1 c.requires.component_bound.1 _)
+pub lay_each-requires-clause-callable : goal.lay_each-requires-clause-callable
+lay_each-requires-clause-callable c =
+    let w = few_at c.args.p c.args.p.i c.requires.places_of c.slot_on-q.ensures (omega arith) (omega arith) in (
+      λ e. columns_in_y c.args.gc c.args.ps.now c.args.ns.now c.args.p (get_or c.args.ps.now e 0),
+      4,
+      search rules,
+      λ e. columns_y_most c.requires.places_of c.args.p c.requires.i_bound.1 c.requires.component_bound.1 _,
+      λ d k xs b l.
+          let h : get_or c.args.ps.now (2 * c.slot_on-q.result + d) 0 < c.args.gc.nx = rw n_of_0 at (place_on_lem c.requires.places_of w.slot b) in
+          let o : 2 * c.slot_on-q.result + d < length c.args.ps.now = omega arith in
+          let m : k + 4 ≤ 2 ^ 40 = omega arith in
+          (search rules, search o, search rules),
+    )
 
 pub returns : goal.returns
 unfolding columns_in
-returns c =
-    let ns = c.args.ns.now in
-    slot_end ns c.loop-d.invariant c.loop-d-test.false c.slot_on-q.ensures refl
+returns c = slot_laid (columns_in_y c.args.gc c.args.ps.now c.args.ns.now c.args.p) (λ e. get_or c.args.ps.now e 0) c.args.ns.now c.slot_on-q.ensures (c.lay_each.ensures (λ e. columns_in_y c.args.gc c.args.ps.now c.args.ns.now c.args.p (get_or c.args.ps.now e 0)) 4 (search rules) (λ e. columns_y_most c.requires.places_of c.args.p c.requires.i_bound.1 c.requires.component_bound.1 _))

@@ -1,45 +1,44 @@
-use mathlib.Core.Path.{refl}
 use native.Mathlib.Omega.{arith}
+use Rattle.std.proofs.Common.{rules}
+use Prim.Native.Nat.{◌+◌, ◌*◌, ◌<◌, ◌^◌}
+use lib.ListN.{length, get_or}
 use Rattle.lattice.proofs.Equations.{n_of_2}
+use Rattle.lattice.specs.Grid.{Inside}
 use Rattle.weights.specs.Prolongation.{edge_at}
 use Rattle.weights.specs.Product.{column_in}
 use Rattle.weights.specs.Tables.{columns_in_z}
-use Rattle.numbers.proofs.RowLoops.{one_laid}
-use Rattle.weights.proofs.RowLaws.{slot_is, place_on_lem, slot_start, slot_turn, slot_end}
+use Rattle.weights.proofs.RowLaws.{place_on_lem, few_at, slot_laid}
 use Rattle.weights.proofs.rows.columns_z.Goals as goal
 
+pub overflow_mul-q : goal.overflow_mul-q
+overflow_mul-q c = let w = few_at c.args.p c.args.p.k c.requires.places_of c.slot_on-q.ensures (omega arith) (omega arith) in omega arith
+
 pub offset_bounds-ns-q : goal.offset_bounds-ns-q
-offset_bounds-ns-q c =
-    let p = c.args.p in
-    omega (arith, slot_is p 2 p.k c.slot_on-q.ensures (omega arith) (omega arith))
+offset_bounds-ns-q c = let w = few_at c.args.p c.args.p.k c.requires.places_of c.slot_on-q.ensures (omega arith) (omega arith) in omega arith
 
 pub bounds-ns-q : goal.bounds-ns-q
-bounds-ns-q c =
-    let p = c.args.p in
-    omega (arith, slot_is p 2 p.k c.slot_on-q.ensures (omega arith) (omega arith))
+bounds-ns-q c = let w = few_at c.args.p c.args.p.k c.requires.places_of c.slot_on-q.ensures (omega arith) (omega arith) in omega arith
 
-pub loop-d-init : goal.loop-d-init
-loop-d-init c =
-    let p = c.args.p in
-    slot_start p p.k c.requires.places_of c.slot_on-q.ensures (omega arith) (omega arith) refl
+pub lay_each-requires-clause-low : goal.lay_each-requires-clause-low
+lay_each-requires-clause-low c = let w = few_at c.args.p c.args.p.k c.requires.places_of c.slot_on-q.ensures (omega arith) (omega arith) in omega arith
 
-pub index-requires-clause-limits : goal.index-requires-clause-limits
-index-requires-clause-limits c = let h = rw n_of_2 at (place_on_lem c.requires.places_of c.loop-d.invariant.slot c.loop-d-test.true) in
-    c.requires.limits
-
-pub index-requires-clause-inside : goal.index-requires-clause-inside
-index-requires-clause-inside c = let h = rw n_of_2 at (place_on_lem c.requires.places_of c.loop-d.invariant.slot c.loop-d-test.true) in
-    record { c_in = omega arith; i_in = omega arith; j_in = omega arith; k_in = h }
-
-pub loop-d-preserved : goal.loop-d-preserved
+pub lay_each-requires-clause-callable : goal.lay_each-requires-clause-callable
 unfolding column_in edge_at
-loop-d-preserved c =
-    let u = c.loop-d.invariant in
-    let t = c.loop-d-test.true in
-    slot_turn u t refl (one_laid c.index.ensures c.push-k.ensures) (omega arith)
+lay_each-requires-clause-callable c =
+    let w = few_at c.args.p c.args.p.k c.requires.places_of c.slot_on-q.ensures (omega arith) (omega arith) in (
+      λ e. column_in c.args.gc c.args.p c.args.i c.args.j (get_or c.args.ps.now e 0),
+      1,
+      search rules,
+      λ e. omega arith,
+      λ d k xs b l.
+          let h : get_or c.args.ps.now (2 * c.slot_on-q.result + d) 0 < c.args.gc.nz = rw n_of_2 at (place_on_lem c.requires.places_of w.slot b) in
+          let o : 2 * c.slot_on-q.result + d < length c.args.ps.now = omega arith in
+          let i : Inside c.args.gc (record { component = c.args.p.component; i = c.args.i; j = c.args.j; k = get_or c.args.ps.now (2 * c.slot_on-q.result + d) 0 }) =
+          record { c_in = c.requires.component_bound.0; i_in = c.requires.i_lt_nx.0; j_in = c.requires.i_lt_nx.1; k_in = h } in
+          let m : k < 2 ^ 40 = omega arith in
+          (search rules, search o, search rules, search m),
+    )
 
 pub returns : goal.returns
-unfolding columns_in_z
-returns c =
-    let ns = c.args.ns.now in
-    slot_end ns c.loop-d.invariant c.loop-d-test.false c.slot_on-q.ensures refl
+unfolding columns_in_z column_in edge_at
+returns c = slot_laid (column_in c.args.gc c.args.p c.args.i c.args.j) (λ e. get_or c.args.ps.now e 0) c.args.ns.now c.slot_on-q.ensures (c.lay_each.ensures (λ e. column_in c.args.gc c.args.p c.args.i c.args.j (get_or c.args.ps.now e 0)) 1 (search rules) (λ e. omega arith))

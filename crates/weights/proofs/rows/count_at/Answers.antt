@@ -1,6 +1,6 @@
 use native.Mathlib.Omega.{arith}
 use Rattle.weights.specs.Tables.{count_in}
-use Rattle.weights.proofs.RowLaws.{slot_is, two_few, three_few}
+use Rattle.weights.proofs.RowLaws.{slot_is, three_few}
 use Rattle.weights.proofs.rows.count_at.Goals as goal
 
 pub offset_bounds-ns-slot_on : goal.offset_bounds-ns-slot_on
@@ -26,16 +26,6 @@ offset_bounds-ns-slot_on-3 c =
 pub bounds-ns-slot_on-3 : goal.bounds-ns-slot_on-3
 bounds-ns-slot_on-3 c =
     omega (arith, slot_is _ _ _ c.slot_on-3.ensures (omega arith) (omega arith))
-
-pub overflow_mul-result : goal.overflow_mul-result
-overflow_mul-result c =
-    let f = c.requires.by_index in
-    omega (
-      arith,
-      two_few
-          (f _ (slot_is _ _ _ c.slot_on.ensures (omega arith) (omega arith)).below)
-          (f _ (slot_is _ _ _ c.slot_on-2.ensures (omega arith) (omega arith)).below),
-    )
 
 pub overflow_mul-result-2 : goal.overflow_mul-result-2
 overflow_mul-result-2 c =

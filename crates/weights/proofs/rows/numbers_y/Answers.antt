@@ -1,59 +1,47 @@
-use mathlib.Core.Path.{refl}
+use Prim.Native.Nat.{◌+◌, ◌*◌, ◌<◌, ◌≤◌, ◌^◌}
 use native.Mathlib.Omega.{arith}
+use Rattle.std.proofs.Common.{rules}
+use mathlib.Core.Path.{◌≡◌}
+use lib.ListN.{get_or}
+use Rattle.weights.specs.declared.rows.Pull.{Pull}
 use Rattle.lattice.proofs.Equations.{n_of_1}
-use Rattle.weights.specs.Tables.{numbers_in_y}
-use Rattle.weights.proofs.RowLaws.{slot_is, pull_in_lem, slot_start, slot_turn, slot_end, numbers_z_most}
+use Rattle.numbers.specs.Lists.{read_from}
+use Rattle.weights.specs.Tables.{pull_in, numbers_in_y, numbers_in_z}
+use Rattle.weights.proofs.RowLaws.{place_on_lem, node_on_lem, few_at, slot_laid, numbers_z_most}
 use Rattle.weights.proofs.rows.numbers_y.Goals as goal
 
-pub offset_bounds-ns-q : goal.offset_bounds-ns-q
-offset_bounds-ns-q c =
-    let p = c.args.p in
-    omega (arith, slot_is p 1 p.j c.slot_on-q.ensures (omega arith) (omega arith))
+pub overflow_mul-q : goal.overflow_mul-q
+overflow_mul-q c = let w = few_at c.args.p c.args.p.j c.requires.span_of.places c.slot_on-q.ensures (omega arith) (omega arith) in omega arith
 
-pub bounds-ns-q : goal.bounds-ns-q
-bounds-ns-q c =
-    let p = c.args.p in
-    omega (arith, slot_is p 1 p.j c.slot_on-q.ensures (omega arith) (omega arith))
+pub offset_bounds-t-q : goal.offset_bounds-t-q
+offset_bounds-t-q c = let w = few_at c.args.p c.args.p.j c.requires.span_of.places c.slot_on-q.ensures (omega arith) (omega arith) in omega arith
 
-pub loop-d-init : goal.loop-d-init
-loop-d-init c =
-    let p = c.args.p in
-    slot_start p p.j c.requires.span_of.places c.slot_on-q.ensures (omega arith) (omega arith) refl
+pub bounds-t-q : goal.bounds-t-q
+bounds-t-q c = let w = few_at c.args.p c.args.p.j c.requires.span_of.places c.slot_on-q.ensures (omega arith) (omega arith) in omega (arith, c.requires.span_of.places.counts_long)
 
-pub numbers_z-k-requires-clause-span_of : goal.numbers_z-k-requires-clause-span_of
-numbers_z-k-requires-clause-span_of c = let v = c.loop-d.invariant.slot in
-    let u = pull_in_lem c.requires.span_of v c.loop-d-test.true c.pull_at-y.ensures in
-    c.requires.span_of
+pub lay_each-requires-clause-low : goal.lay_each-requires-clause-low
+lay_each-requires-clause-low c = let w = few_at c.args.p c.args.p.j c.requires.span_of.places c.slot_on-q.ensures (omega arith) (omega arith) in omega arith
 
-pub numbers_z-k-requires-clause-component_bound : goal.numbers_z-k-requires-clause-component_bound
-numbers_z-k-requires-clause-component_bound c = let v = c.loop-d.invariant.slot in
-    let u = pull_in_lem c.requires.span_of v c.loop-d-test.true c.pull_at-y.ensures in
-    c.requires.component_bound
-
-pub numbers_z-k-requires-clause-place_lt_nx : goal.numbers_z-k-requires-clause-place_lt_nx
-numbers_z-k-requires-clause-place_lt_nx c = let v = c.loop-d.invariant.slot in
-    let u = pull_in_lem c.requires.span_of v c.loop-d-test.true c.pull_at-y.ensures in
-    (c.requires.place_lt_nx.0, rw n_of_1 at u.place_low)
-
-pub numbers_z-k-requires-clause-node_lt_nx : goal.numbers_z-k-requires-clause-node_lt_nx
-numbers_z-k-requires-clause-node_lt_nx c = let v = c.loop-d.invariant.slot in
-    let u = pull_in_lem c.requires.span_of v c.loop-d-test.true c.pull_at-y.ensures in
-    (c.requires.node_lt_nx, rw n_of_1 at u.node_low)
-
-pub numbers_z-k-requires-clause-from_bound : goal.numbers_z-k-requires-clause-from_bound
-numbers_z-k-requires-clause-from_bound c = let v = c.loop-d.invariant.slot in
-    let u = pull_in_lem c.requires.span_of v c.loop-d-test.true c.pull_at-y.ensures in
-    omega (arith, c.requires.from_bound)
-
-pub loop-d-preserved : goal.loop-d-preserved
-loop-d-preserved c =
-    let l = numbers_z_most c.requires.span_of.places _ _ _ _ _ _ c.requires.component_bound.1 _ _ in
-    let u = c.loop-d.invariant in
-    let t = c.loop-d-test.true in
-    slot_turn u t c.pull_at-y.ensures c.numbers_z-k.ensures l
+pub lay_each-requires-clause-callable : goal.lay_each-requires-clause-callable
+lay_each-requires-clause-callable c =
+    let t = c.args.t.now in
+    let w = few_at c.args.p c.args.p.j c.requires.span_of.places c.slot_on-q.ensures (omega arith) (omega arith) in (
+      λ e. numbers_in_z t.span.fine t.span.coarse (read_from t.eps.now t.span.feps) (read_from t.eps.now t.span.ceps) t.places.now t.nodes.now t.counts.now t.pulls.now c.args.p c.args.x (pull_in t.places.now t.nodes.now t.pulls.now e),
+      2,
+      search rules,
+      λ e. numbers_z_most c.requires.span_of.places c.args.p _ _ _ _ _ c.requires.component_bound.1 c.args.x _,
+      λ d k xs b l.
+          let h : get_or t.places.now (2 * c.slot_on-q.result + d) 0 < t.span.coarse.ny = rw n_of_1 at (place_on_lem c.requires.span_of.places w.slot b) in
+          let g : get_or t.nodes.now (2 * c.slot_on-q.result + d) 0 < t.span.fine.ny = rw n_of_1 at (node_on_lem c.requires.span_of.nodes w.slot b) in
+          let o : 2 * c.slot_on-q.result + d < 768 = omega arith in
+          let m : k + 2 ≤ 2 ^ 40 = omega arith in
+          let low : (z : Pull) → z ≡ pull_in t.places.now t.nodes.now t.pulls.now (2 * c.slot_on-q.result + d) → z.place < t.span.coarse.ny = λ z e. rw e h in
+          let deep : (z : Pull) → z ≡ pull_in t.places.now t.nodes.now t.pulls.now (2 * c.slot_on-q.result + d) → z.node < t.span.fine.ny = λ z e. rw e g in
+          (search rules, search (rules, low, deep)),
+    )
 
 pub returns : goal.returns
 unfolding numbers_in_y
 returns c =
-    let ns = c.args.ns.now in
-    slot_end ns c.loop-d.invariant c.loop-d-test.false c.slot_on-q.ensures refl
+    let t = c.args.t.now in
+    slot_laid (numbers_in_z t.span.fine t.span.coarse (read_from t.eps.now t.span.feps) (read_from t.eps.now t.span.ceps) t.places.now t.nodes.now t.counts.now t.pulls.now c.args.p c.args.x) (pull_in t.places.now t.nodes.now t.pulls.now) t.counts.now c.slot_on-q.ensures (c.lay_each.ensures (λ e. numbers_in_z t.span.fine t.span.coarse (read_from t.eps.now t.span.feps) (read_from t.eps.now t.span.ceps) t.places.now t.nodes.now t.counts.now t.pulls.now c.args.p c.args.x (pull_in t.places.now t.nodes.now t.pulls.now e)) 2 (search rules) (λ e. numbers_z_most c.requires.span_of.places c.args.p _ _ _ _ _ c.requires.component_bound.1 c.args.x _))

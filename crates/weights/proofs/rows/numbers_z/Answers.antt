@@ -1,54 +1,48 @@
-use mathlib.Core.Path.{refl}
+use Prim.Native.Nat.{◌+◌, ◌*◌, ◌<◌, ◌^◌}
 use native.Mathlib.Omega.{arith}
+use Rattle.std.proofs.Common.{rules}
+use mathlib.Core.Path.{◌≡◌}
+use lib.ListN.{get_or}
+use Rattle.weights.specs.declared.rows.Pull.{Pull}
 use Rattle.lattice.proofs.Equations.{n_of_2}
-use Rattle.weights.specs.Tables.{number_in, numbers_in_z}
-use Rattle.numbers.proofs.RowLoops.{one_laid}
-use Rattle.weights.proofs.RowLaws.{slot_is, pull_in_lem, slot_start, slot_turn, slot_end}
+use Rattle.numbers.specs.Lists.{read_from}
+use Rattle.weights.specs.Tables.{pull_in, number_in, numbers_in_z}
+use Rattle.weights.proofs.RowLaws.{place_on_lem, node_on_lem, few_at, slot_laid}
 use Rattle.weights.proofs.rows.numbers_z.Goals as goal
 
-pub offset_bounds-ns-q : goal.offset_bounds-ns-q
-offset_bounds-ns-q c =
-    let p = c.args.p in
-    omega (arith, slot_is p 2 p.k c.slot_on-q.ensures (omega arith) (omega arith))
+pub overflow_mul-q : goal.overflow_mul-q
+overflow_mul-q c = let w = few_at c.args.p c.args.p.k c.requires.span_of.places c.slot_on-q.ensures (omega arith) (omega arith) in omega arith
 
-pub bounds-ns-q : goal.bounds-ns-q
-bounds-ns-q c =
-    let p = c.args.p in
-    omega (arith, slot_is p 2 p.k c.slot_on-q.ensures (omega arith) (omega arith))
+pub offset_bounds-t-q : goal.offset_bounds-t-q
+offset_bounds-t-q c = let w = few_at c.args.p c.args.p.k c.requires.span_of.places c.slot_on-q.ensures (omega arith) (omega arith) in omega arith
 
-pub loop-d-init : goal.loop-d-init
-loop-d-init c =
-    let p = c.args.p in
-    slot_start p p.k c.requires.span_of.places c.slot_on-q.ensures (omega arith) (omega arith) refl
+pub bounds-t-q : goal.bounds-t-q
+bounds-t-q c = let w = few_at c.args.p c.args.p.k c.requires.span_of.places c.slot_on-q.ensures (omega arith) (omega arith) in omega (arith, c.requires.span_of.places.counts_long)
 
-pub weight-requires-clause-limits : goal.weight-requires-clause-limits
-weight-requires-clause-limits c = let v = c.loop-d.invariant.slot in
-    let u = pull_in_lem c.requires.span_of v c.loop-d-test.true c.pull_at-z.ensures in (c.requires.span_of.fine_in, c.requires.span_of.coarse_in)
+pub lay_each-requires-clause-low : goal.lay_each-requires-clause-low
+lay_each-requires-clause-low c = let w = few_at c.args.p c.args.p.k c.requires.span_of.places c.slot_on-q.ensures (omega arith) (omega arith) in omega arith
 
-pub weight-requires-clause-inside : goal.weight-requires-clause-inside
-weight-requires-clause-inside c = let v = c.loop-d.invariant.slot in
-    let u = pull_in_lem c.requires.span_of v c.loop-d-test.true c.pull_at-z.ensures in record { c_in = c.requires.component_bound.0; i_in = c.requires.place_lt_nx.0; j_in = c.requires.place_lt_nx.1; k_in = rw n_of_2 at u.place_low }
-
-pub weight-requires-clause-inside_2 : goal.weight-requires-clause-inside_2
-weight-requires-clause-inside_2 c = let v = c.loop-d.invariant.slot in
-    let u = pull_in_lem c.requires.span_of v c.loop-d-test.true c.pull_at-z.ensures in record { c_in = c.requires.component_bound.0; i_in = c.requires.node_lt_nx.0; j_in = c.requires.node_lt_nx.1; k_in = rw n_of_2 at u.node_low }
-
-pub weight-requires-clause-room_of : goal.weight-requires-clause-room_of
-weight-requires-clause-room_of c = let v = c.loop-d.invariant.slot in
-    let u = pull_in_lem c.requires.span_of v c.loop-d-test.true c.pull_at-z.ensures in c.requires.span_of.room
-
-pub push_number-k-requires : goal.push_number-k-requires
-push_number-k-requires c = omega (arith, c.requires.from_bound)
-
-pub loop-d-preserved : goal.loop-d-preserved
+pub lay_each-requires-clause-callable : goal.lay_each-requires-clause-callable
 unfolding number_in
-loop-d-preserved c =
-    let u = c.loop-d.invariant in
-    let t = c.loop-d-test.true in
-    slot_turn u t c.pull_at-z.ensures (one_laid c.weight.ensures c.push_number-k.ensures) (omega arith)
+lay_each-requires-clause-callable c =
+    let t = c.args.t.now in
+    let w = few_at c.args.p c.args.p.k c.requires.span_of.places c.slot_on-q.ensures (omega arith) (omega arith) in (
+      λ e. number_in t.span.fine t.span.coarse (read_from t.eps.now t.span.feps) (read_from t.eps.now t.span.ceps) c.args.p c.args.x c.args.y (pull_in t.places.now t.nodes.now t.pulls.now e),
+      1,
+      search rules,
+      λ e. omega arith,
+      λ d k xs b l.
+          let h : get_or t.places.now (2 * c.slot_on-q.result + d) 0 < t.span.coarse.nz = rw n_of_2 at (place_on_lem c.requires.span_of.places w.slot b) in
+          let g : get_or t.nodes.now (2 * c.slot_on-q.result + d) 0 < t.span.fine.nz = rw n_of_2 at (node_on_lem c.requires.span_of.nodes w.slot b) in
+          let o : 2 * c.slot_on-q.result + d < 768 = omega arith in
+          let m : k < 2 ^ 40 = omega arith in
+          let low : (z : Pull) → z ≡ pull_in t.places.now t.nodes.now t.pulls.now (2 * c.slot_on-q.result + d) → z.place < t.span.coarse.nz = λ z e. rw e h in
+          let deep : (z : Pull) → z ≡ pull_in t.places.now t.nodes.now t.pulls.now (2 * c.slot_on-q.result + d) → z.node < t.span.fine.nz = λ z e. rw e g in
+          (search rules, search (rules, low, deep), search m),
+    )
 
 pub returns : goal.returns
-unfolding numbers_in_z
+unfolding numbers_in_z number_in
 returns c =
-    let ns = c.args.ns.now in
-    slot_end ns c.loop-d.invariant c.loop-d-test.false c.slot_on-q.ensures refl
+    let t = c.args.t.now in
+    slot_laid (number_in t.span.fine t.span.coarse (read_from t.eps.now t.span.feps) (read_from t.eps.now t.span.ceps) c.args.p c.args.x c.args.y) (pull_in t.places.now t.nodes.now t.pulls.now) t.counts.now c.slot_on-q.ensures (c.lay_each.ensures (λ e. number_in t.span.fine t.span.coarse (read_from t.eps.now t.span.feps) (read_from t.eps.now t.span.ceps) c.args.p c.args.x c.args.y (pull_in t.places.now t.nodes.now t.pulls.now e)) 1 (search rules) (λ e. omega arith))

@@ -1,14 +1,9 @@
 -- `weights::rows::weights_row` meets its contract.
 -- Assumes nothing.
 use mathlib.Core.Path.{◌∙◌}
-use native.Mathlib.Omega.{arith}
 use Rattle.weights.proofs.RowLaws.{at_low}
 use Rattle.weights.proofs.RowNumbers.{row_is, row_room, row_finite, row_few}
 use Rattle.weights.proofs.rows.weights_row.Goals as goal
-
-pub numbers_at-last-requires-clause-span_of : goal.numbers_at-last-requires-clause-span_of
-numbers_at-last-requires-clause-span_of c = let l = at_low c.requires.span_of.fine_in c.requires.r_bound c.at.ensures in
-    c.requires.span_of
 
 pub numbers_at-last-requires-clause-component_bound : goal.numbers_at-last-requires-clause-component_bound
 numbers_at-last-requires-clause-component_bound c = let l = at_low c.requires.span_of.fine_in c.requires.r_bound c.at.ensures in
@@ -17,10 +12,6 @@ numbers_at-last-requires-clause-component_bound c = let l = at_low c.requires.sp
 pub numbers_at-last-requires-clause-i_bound : goal.numbers_at-last-requires-clause-i_bound
 numbers_at-last-requires-clause-i_bound c = let l = at_low c.requires.span_of.fine_in c.requires.r_bound c.at.ensures in
     (l.i_low, l.j_low)
-
-pub numbers_at-last-requires-clause-from_bound : goal.numbers_at-last-requires-clause-from_bound
-numbers_at-last-requires-clause-from_bound c = let l = at_low c.requires.span_of.fine_in c.requires.r_bound c.at.ensures in
-    omega (arith, c.requires.at_bound.0)
 
 pub finite_numbers-requires : goal.finite_numbers-requires
 finite_numbers-requires c = row_room _ _ _ _ _ _ _ _ _ c.at.ensures c.numbers_at-last.ensures (row_few c.requires.span_of.fine_in c.requires.span_of.places c.requires.r_bound) c.requires.at_bound.0 c.requires.at_bound.1

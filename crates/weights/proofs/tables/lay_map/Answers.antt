@@ -2,11 +2,8 @@ use native.Mathlib.Omega.{arith}
 use mathlib.Core.Path.{refl, ◌∙◌}
 use Rattle.numbers.specs.Complex.{no_number}
 use Rattle.numbers.proofs.Laws.{length_set_number}
-use Rattle.numbers.proofs.RowLoops.{spread_start, spread_turn, spread_end}
+use Rattle.numbers.proofs.RowLoops.{spread_turn, spread_end}
 use Rattle.weights.proofs.tables.lay_map.Goals as goal
-
-pub loop-p-init : goal.loop-p-init
-loop-p-init c = (omega arith, refl, spread_start)
 
 pub loop-p-preserved : goal.loop-p-preserved
 loop-p-preserved c =

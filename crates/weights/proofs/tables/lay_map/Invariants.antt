@@ -8,4 +8,4 @@ use Rattle.numbers.proofs.RowLoops.{Spread}
 use Rattle.weights.proofs.tables.lay_map.Given as goal
 
 abbrev pub invariant-loop-p : goal.invariant-loop-p
-invariant-loop-p l = (l.p ≤ 129) × (length l.out ≡ length l.initial.out) × Spread set_number l.initial.out (129 * l.b) l.x l.p l.out
+invariant-loop-p l = (l.p ≤ 129) × (length l.out ≡ length l.initial.out) × Spread set_number l.initial.out (129 * l.b) l.fn.x l.p l.out

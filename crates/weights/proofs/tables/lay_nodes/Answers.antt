@@ -1,14 +1,10 @@
+use Prim.Native.Nat.{◌*◌}
 use native.Mathlib.Omega.{arith}
-use mathlib.Core.Path.{refl}
-use lib.ListN.{length-set}
-use Rattle.numbers.proofs.RowLoops.{spread_start, spread_turn, spread_end}
+use Rattle.std.proofs.lemmas.Grind.{common_steps}
+use Rattle.weights.proofs.TableLaws.{laid_over}
 use Rattle.weights.proofs.tables.lay_nodes.Goals as goal
 
-pub loop-m-init : goal.loop-m-init
-loop-m-init c = (omega arith, refl, spread_start)
-
-pub loop-m-preserved : goal.loop-m-preserved
-loop-m-preserved c = (omega arith, simp length-set c.loop-m.invariant.1, spread_turn 0 c.loop-m.invariant.2 (omega arith) refl)
-
 pub returns : goal.returns
-returns c = spread_end c.loop-m.invariant.2 (omega arith)
+returns c =
+    let e = laid_over c.args.out.now (65 * c.args.a) c.args.nodes (omega arith) in
+    rw e (grind (arith, common_steps))

@@ -1,15 +1,7 @@
-use native.Mathlib.Omega.{arith}
-use mathlib.Core.Path.{◌≡◌}
-use Rattle.numbers.proofs.TabulateLaws.{filled_start, filled_turn, filled_whole}
+use Rattle.std.proofs.Common.{rules}
+use Rattle.weights.specs.Tables.{value_entry, lines_in}
+use Rattle.weights.proofs.TableLaws.{made_tabulate}
 use Rattle.weights.proofs.tables.value_places.Goals as goal
 
-pub loop-q-init : goal.loop-q-init
-loop-q-init c = (omega arith, filled_start)
-
-pub loop-q-preserved : goal.loop-q-preserved
-loop-q-preserved c = (omega arith, filled_turn c.loop-q.invariant.1 (omega arith) c.value_place.ensures)
-
 pub returns : goal.returns
-returns c =
-    let e : c.loop-q.q ≡ 384 = omega arith in
-    filled_whole (rw e at c.loop-q.invariant.1)
+returns c = made_tabulate (value_entry (lines_in c.args.s)) 384 0 c.from_fn.result c.from_fn.ensures.items (λ i y q b k. search rules)

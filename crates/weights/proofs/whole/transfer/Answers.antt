@@ -3,17 +3,8 @@
 use mathlib.Core.Path.{ap, ◌∙◌}
 use Rattle.lattice.specs.Grid.{unknowns_of}
 use Rattle.weights.proofs.TwoLevelLaws.{fine_grid_lem, coarse_grid_lem}
-use Rattle.weights.proofs.WholeLaws.{fine_limited, coarse_limited, room_for, weights_room, turn_ready, whole_left, finite_both, finite_not}
+use Rattle.weights.proofs.WholeLaws.{fine_limited, coarse_limited, turn_ready, whole_left, finite_both, finite_not}
 use Rattle.weights.proofs.whole.transfer.Goals as goal
-
-pub weights-b-requires-clause-paired : goal.weights-b-requires-clause-paired
-weights-b-requires-clause-paired c = c.requires.paired
-
-pub weights-b-requires-clause-room_for : goal.weights-b-requires-clause-room_for
-weights-b-requires-clause-room_for c = room_for c.requires.paired c.requires.whole_room _ c.coarse_eps-a.ensures.eps_after
-
-pub weights-b-requires-clause-k_bound : goal.weights-b-requires-clause-k_bound
-weights-b-requires-clause-k_bound c = weights_room c.requires.paired c.requires.whole_room
 
 pub unknowns-n-requires : goal.unknowns-n-requires
 unknowns-n-requires c = fine_limited c.requires.paired c.grid_of-gf.ensures

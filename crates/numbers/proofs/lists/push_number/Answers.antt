@@ -1,6 +1,0 @@
-use mathlib.Core.Path.{refl}
-use Rattle.numbers.proofs.ListLaws.{laid_one}
-use Rattle.numbers.proofs.lists.push_number.Goals as goal
-
-pub returns : goal.returns
-returns c = laid_one c.put.ensures refl

@@ -1,9 +1,0 @@
-use Rattle.numbers.specs.Places.{set_number}
-use Rattle.weights.specs.Tables.{pull_in, number_in}
-use Rattle.numbers.specs.Lists.{read_from}
-use Rattle.weights.proofs.RowLaws.{AtSlot}
-use Rattle.weights.proofs.rows.numbers_z.Given as goal
-
-abbrev pub invariant-loop-d : goal.invariant-loop-d
-invariant-loop-d l =
-    AtSlot set_number (number_in l.s.fine l.s.coarse (read_from l.eps l.s.feps) (read_from l.eps l.s.ceps) l.p l.x l.y) (pull_in l.ps l.ds l.xs) 2 1 l.q l.n l.from l.initial.values l.values l.k l.d
