@@ -19,8 +19,8 @@ FAULTS = {
     "lost-conjugate": ("lattice/src/neighbours.rt", "p.conj()", "p"),
     "swapped-neighbour": ("lattice/src/curls.rt", "grid::with_component(p, field), along, true)",
                           "grid::with_component(p, field), along, false)"),
-    "swapped-axes": ("lattice/src/curls.rt", "behind(l, st, p, b, c, 1.0, 0, columns, values)",
-                     "behind(l, st, p, c, b, 1.0, 0, columns, values)"),
+    "swapped-axes": ("lattice/src/curls.rt", "behind(l, p, b, c, 1.0, 0, columns, values)",
+                     "behind(l, p, c, b, 1.0, 0, columns, values)"),
     "wrong-factor": ("lattice/src/stretched.rt", "lattice::half(l, st, axis, p / 2)", "0.5 * lattice::half(l, st, axis, p / 2)"),
     "wrong-node": ("lattice/src/stretched.rt", "(p + 1) / 2", "p / 2"),
     "lost-sign": ("lattice/src/rows.rt", "-wh * we", "wh * we"),
@@ -48,33 +48,33 @@ FAULTS = {
     "sums-from-zero": ("numbers/src/collect.rt", "columns[p] = c;\n    crate::put(values, p, v);",
                        "columns[p] = c;\n    crate::put(values, p, C64::zero() + v);"),
     "shift-first": ("operators/src/stencil.rt", """\
-    let n = unshifted_row(l, st, eps, r, columns, values);
-    if l.shift != 0.0 {
-        if !neighbours::fixed(l, st, r) {
-            return collect::insert(columns, values, n, r, shift_number(l, st, eps, r));
+    let n = unshifted_row(l, eps, r, columns, values);
+    if l.lattice.shift != 0.0 {
+        if !neighbours::fixed(l, r) {
+            return collect::insert(columns, values, n, r, shift_number(l.lattice, l.st, eps, r));
         }
     }
     n
 """, """\
-    if l.shift == 0.0 || neighbours::fixed(l, st, r) {
-        return unshifted_row(l, st, eps, r, columns, values);
+    if l.lattice.shift == 0.0 || neighbours::fixed(l, r) {
+        return unshifted_row(l, eps, r, columns, values);
     }
     let mut cs = [0usize; 29];
     let mut xs = [0.0; 58];
-    let n = rows::row_into(l, st, eps, r, &mut cs, &mut xs);
-    let mut k = collect::insert(columns, values, 0, r, shift_number(l, st, eps, r));
+    let n = rows::row_into(l, eps, r, &mut cs, &mut xs);
+    let mut k = collect::insert(columns, values, 0, r, shift_number(l.lattice, l.st, eps, r));
     for m in 0..n {
         k = collect::insert(columns, values, k, cs[m], numbers::get(&xs, m));
     }
     k
 """),
     "shift-grouping": ("operators/src/stencil.rt", "l.shift * (l.k0 * l.k0)", "l.shift * l.k0 * l.k0"),
-    "fixed-shifted": ("operators/src/stencil.rt", "if !neighbours::fixed(l, st, r) {", "if r < 12288 {"),
+    "fixed-shifted": ("operators/src/stencil.rt", "if !neighbours::fixed(l, r) {", "if r < 12288 {"),
     "last-row-finite": ("operators/src/stencil.rt", "finite = finite && row.finite;", "finite = row.finite;"),
     "two-weights-first": ("operators/src/galerkin.rt", "add_column(w * v, cs[q], p, sums);", """\
 let c = cs[q];
         for e in p.part.k + p.starts[p.part.s + c]..p.part.k + p.starts[p.part.s + c + 1] {
-            add_term(sums, p.columns[e], numbers::mul(numbers::mul(w, numbers::get(p.values, e)), v));
+            add_term(sums, p.columns[e], w * numbers::get(p.values, e) * v);
         }"""),
     "diagonal-everywhere": ("operators/src/galerkin.rt", "if tstarts[ts + c] == tstarts[ts + c + 1] {", "if tstarts[ts + c] <= tstarts[ts + c + 1] {"),
     "diagonal-zero": ("operators/src/galerkin.rt", "numbers::put(sums, c, C64::one());", "numbers::put(sums, c, C64::zero());"),
@@ -101,8 +101,8 @@ let c = cs[q];
     "turned-part-kept": ("store/src/transfers.rt", "ts: o.ts + m + 1,", "ts: o.ts,"),
     "last-bad-level": ("store/src/lines.rt", "bad.or((!ok).then_some(level))", "(!ok).then_some(level).or(bad)"),
     "full-list-refused": ("store/src/needs.rt", "n.eps <= h.eps / 2;", "n.eps < h.eps / 2;"),
-    "one-list-kept": ("store/src/setup.rt", "    ostarts.fill(0);\n    ocolumns.fill(0);\n    ovalues.fill(0.0);\n", ""),
-    "finest-stretches": ("store/src/scaling.rt", "volumes::volumes(own, &stretches, scaling, k)", "volumes::volumes(own, st, scaling, k)"),
+    "one-list-kept": ("store/src/lists.rt", "        self.ostarts.fill(0);\n        self.ocolumns.fill(0);\n        self.ovalues.fill(0.0);\n", ""),
+    "finest-stretches": ("store/src/scaling.rt", "st: &stretches,", "st: h.l.st,"),
     "row-behind-the-last": ("store/src/handed.rt", "if n <= row {", "if n < row {"),
     "starts-fall": ("store/src/handed.rt", "if b < a {", "if b + 1 < a {"),
     "row-past-the-room": ("store/src/handed.rt", "if room - terms < b {", "if room - terms + 1 < b {"),
@@ -112,9 +112,9 @@ let c = cs[q];
     "turned-as-forward": ("store/src/handed.rt", "transfer_row(c, 1, tstarts, troom, level, row)", "transfer_row(c, 0, tstarts, troom, level, row)"),
     "one-level-enough": ("store/src/handed.rt", "levels_there(c, level + 2)", "levels_there(c, level + 1)"),
     "start-too-few": ("store/src/handed.rt", "at += n + 1;", "at += n;"),
-    "level-count-less": ("store/src/needed.rt", "levels: m + 1,", "levels: m,"),
+    "level-count-less": ("store/src/needed.rt", "levels: h.m + 1,", "levels: h.m,"),
     "ten-levels-counted": ("store/src/needed.rt", "lines.map(|f| f.cells)", "let mut cells = lines.map(|f| f.cells);\n    cells[30..].fill(0);\n    cells"),
-    "galerkin-needs": ("store/src/needed.rt", "needs::count(l, st, lines, m, choice)", "needs::count(l, st, lines, m, Choice::Galerkin)"),
+    "galerkin-needs": ("store/src/needed.rt", "needs::count(h, choice)", "needs::count(h, Choice::Galerkin)"),
     "one-choice": ("store/src/lib.rt", "if n == 0 {", "if n != 1 {"),
     "one-kind": ("yonaduvi/src/input.rt", "if kind == 0.0 {", "if kind != 1.0 {"),
     "three-cells-alone": ("yonaduvi/src/input.rt", "if cells.len() < 3 {", "if cells.len() != 3 {"),
@@ -127,34 +127,43 @@ let c = cs[q];
     "end-for-count": ("yonaduvi/src/rows.rt", "k * (j - i))", "k * j)"),
     "odd-double-room": ("yonaduvi/src/lib.rt", "let room = values.len() / 2;", "let room = (values.len() + 1) / 2;"),
     "one-turned": ("yonaduvi/src/lib.rt", "turned != 0", "turned == 1"),
-    "deeper-levels-left": ("renew/src/parts.rt", "for level in 0..m {", "for level in 0..1 {"),
-    "coarse-permittivities-left": ("reach/src/hits.rt", "let mut at = raise_bits(flags, base, k, &h.eps);", "let mut at = base + k;"),
-    "averaged-left": ("reach/src/hits.rt", "at = raise_bits(flags, at, only, &h.averaged);", "at = at + only;"),
-    "forward-rows-left": ("reach/src/hits.rt", "at = raise_bits(flags, at, n, &h.forward);", "at = at + n;"),
-    "turned-rows-left": ("reach/src/hits.rt", "raise_bits(flags, at, k, &h.turned)", "at + k"),
-    "shares-left": ("reach/src/hits.rt", "at = raise_bits(flags, at + volumes, only, &h.turned);", "at = at + volumes + only;"),
-    "sole-rows-left": ("reach/src/hits.rt", "raise_bits(flags, 0, n, &h.operator)", "n"),
-    "first-operator-left": ("reach/src/hits.rt", "    flags::lattice_flags(l, st, flags, out);\n", ""),
-    "forward-by-coarse-left": ("reach/src/hits.rt", "    flags::stored_flags(a.forward, n, starts, columns, &h.eps, &mut h.forward);\n", ""),
-    "operator-by-computed-rows-left": ("reach/src/hits.rt", "        flags::first_flags(l, st, flags, out);\n", ""),
+    "deeper-levels-left": ("renew/src/parts.rt", "for level in 0..h.m {", "for level in 0..1 {"),
+    "coarse-permittivities-left": ("reach/src/hits.rt", "let mut at = raise_bits(flags, base, k, &hits.eps);", "let mut at = base + k;"),
+    "averaged-left": ("reach/src/hits.rt", "at = raise_bits(flags, at, only, &hits.averaged);", "at = at + only;"),
+    "forward-rows-left": ("reach/src/hits.rt", "at = raise_bits(flags, at, n, &hits.forward);", "at = at + n;"),
+    "turned-rows-left": ("reach/src/hits.rt", "raise_bits(flags, at, k, &hits.turned)", "at + k"),
+    "shares-left": ("reach/src/hits.rt", "at = raise_bits(flags, at + volumes, only, &hits.turned);", "at = at + volumes + only;"),
+    "sole-rows-left": ("reach/src/hits.rt", "raise_bits(flags, 0, n, &hits.operator)", "n"),
+    "first-operator-left": ("reach/src/hits.rt", "    flags::lattice_flags(l, flags, out);\n", ""),
+    "forward-by-coarse-left": ("reach/src/hits.rt", """\
+    flags::stored_flags(
+        a.forward,
+        n,
+        s.starts,
+        s.columns,
+        &hits.eps,
+        &mut hits.forward,
+    );
+""", ""),
+    "operator-by-computed-rows-left": ("reach/src/hits.rt", "        flags::first_flags(l, flags, out);\n", ""),
     "operator-by-forward-left": ("reach/src/hits.rt", "    flags::stored_flags(o, n, ostarts, ocolumns, flags, out);\n", ""),
-    "operator-by-fine-left": ("reach/src/hits.rt", "let mut leads = h.operator;", "let mut leads = [false; EDGES];"),
-    "rediscretized-operator-left": ("reach/src/hits.rt", "    flags::rediscretized_flags(l, st, lines, m, level, &h.averaged, &mut h.operator);\n", ""),
+    "operator-by-fine-left": ("reach/src/hits.rt", "let mut leads = hits.operator;", "let mut leads = [false; EDGES];"),
+    "rediscretized-operator-left": ("reach/src/hits.rt", "    flags::rediscretized_flags(h, level, &hits.averaged, &mut hits.operator);\n", ""),
     "divergence-left": ("operators/src/stencil.rt", "for &q in &cs[..n] {", "for &q in &cs[..n / 2] {"),
-    "fixed-row-reached": ("operators/src/stencil.rt", "    if neighbours::fixed(l, st, r) {\n        return;\n    }\n    out[r] = true;",
+    "fixed-row-reached": ("operators/src/stencil.rt", "    if neighbours::fixed(l, r) {\n        return;\n    }\n    out[r] = true;",
                           "    out[r] = true;"),
     "beyond-the-reach": ("renew/src/flag.rt", "words::bit(flags[q / 64], q % 64)", "words::bit(flags[q / 64], q % 64) || q % 7 == 0"),
     "nothing-put-back": ("renew/src/guard.rt", "        cursor::put_back(", "        if bad.0 < 100 {\n            return Err(bad);\n        }\n        cursor::put_back("),
-    "turned-not-put-back": ("renew/src/cursor.rt", "        tvalues[at] = x;\n", ""),
+    "turned-not-put-back": ("renew/src/cursor.rt", "NumberList::Turned => v.tvalues[at] = x,", "NumberList::Turned => {}"),
     "half-put-back": ("renew/src/cursor.rt", "for &x in &old[..n] {", "for &x in &old[..n / 2] {"),
     "same-double-saved": ("renew/src/cursor.rt", "at: c.at + 1,", "at: c.at,"),
-    "permittivity-not-put-back": ("changes/src/change.rt", "    numbers::put(eps, edge, old);\n", ""),
+    "permittivity-not-put-back": ("changes/src/change.rt", "        numbers::put(n.eps, edge, old);\n", ""),
     "ten-before-nine": ("changes/src/change.rt", "    if n <= edge {", "    if bad {\n        return Err(Refusal::BadValue(edge));\n    }\n    if n <= edge {"),
     "nine-too-late": ("changes/src/change.rt", "if n <= edge {", "if n < edge {"),
-    "eleven-before-six": ("changes/src/change.rt", "    let n = setup::structure(",
-                          "    if ends.len() > 0 && ends[0] != 0 {\n        return Err(Refusal::Differs(0));\n    }\n    let n = setup::structure("),
-    "seven-at-the-last": ("changes/src/change.rt", "setup::Refusal::NotFinite(level)", "setup::Refusal::NotFinite(m)"),
-    "ends-not-compared": ("changes/src/compare.rt", "let e = first_ends(l, st, lines, m, ends);", "let e = None;"),
+    "eleven-before-six": ("changes/src/change.rt", "    let count = setup::structure(",
+                          "    if s.ends.len() > 0 && s.ends[0] != 0 {\n        return Err(Refusal::Differs(0));\n    }\n    let count = setup::structure("),
+    "seven-at-the-last": ("changes/src/change.rt", "setup::Refusal::NotFinite(level)", "setup::Refusal::NotFinite(h.m)"),
+    "ends-not-compared": ("changes/src/compare.rt", "let e = first_ends(h, s.ends);", "let e = None;"),
     "forward-starts-not-compared": ("changes/src/compare.rt", """\
 0, &mut row);
         if !same_row(starts, s + r, k, columns, o.k + k, &row, count) {
@@ -163,9 +172,6 @@ let c = cs[q];
         k += count;
     }
     starts[s + n] == k
-}
-
-// Whether the forward rows between two levels stand in two lists.
 """, """\
 0, &mut row);
         if !same(columns, o.k + k, &row, count) {
@@ -174,14 +180,12 @@ let c = cs[q];
         k += count;
     }
     true
-}
-
 """),
     "forward-columns-not-compared": ("changes/src/compare.rt", """\
-ps, ns, grid::at(gf, r), 0, &mut row);
+grid::at(gf, r), 0, &mut row);
         if !same_row(starts, s + r, k, columns, o.k + k, &row, count) {
 """, """\
-ps, ns, grid::at(gf, r), 0, &mut row);
+grid::at(gf, r), 0, &mut row);
         if starts[s + r] != k {
 """),
     "turned-starts-not-compared": ("changes/src/compare.rt", "tstarts[ts] == 0 && tstarts[ts + 1..ts + m + 1] == next[..m]", "tstarts[ts] == 0"),
@@ -271,10 +275,10 @@ def plain(crates, name, fault):
     lines, depth = [], 0
     for line in text.split("\n"):
         start = line.strip()
-        if depth > 0 or re.match(r"(requires|ensures)( \w+)? \{|ghost (?!use )\w+( =|:) \{", start):
+        if depth > 0 or re.match(r"(requires|ensures)( \w+)? \{|(pub )?ghost (?!use )\w+( =|:) \{|by \{", start):
             depth += line.count("{") - line.count("}")
             # a trait's function without a body ends with its last clause
-            if depth == 0 and start.endswith("};") and not start.startswith("ghost") and lines[-1].endswith(")"):
+            if depth == 0 and start.endswith("};") and "ghost " not in start and lines[-1].endswith(")"):
                 lines[-1] += ";"
         elif not start.startswith(("ghost use", "#![tactic", "#[tactic")):
             lines.append(line)

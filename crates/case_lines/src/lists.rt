@@ -2,23 +2,6 @@
 
 ghost use Rattle.std.specs.Prelude.{◌≡◌, take, set};
 
-// The twelve lists of a store. Fronts of arrays: there is no heap.
-#[derive(Drop)]
-pub struct Lists<'a> {
-    pub ends: &'a mut [usize],
-    pub eps: &'a mut [f64],
-    pub starts: &'a mut [usize],
-    pub columns: &'a mut [usize],
-    pub values: &'a mut [f64],
-    pub tstarts: &'a mut [usize],
-    pub tcolumns: &'a mut [usize],
-    pub tvalues: &'a mut [f64],
-    pub ostarts: &'a mut [usize],
-    pub ocolumns: &'a mut [usize],
-    pub ovalues: &'a mut [f64],
-    pub scaling: &'a mut [f64],
-}
-
 // The first n places of a list, or all of it.
 pub fn front<T>(list: &[T], n: usize) -> &[T]
     ensures { result.now ≡ take n list.now }

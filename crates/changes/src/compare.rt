@@ -1,33 +1,37 @@
 // Refusal 11: starts, columns and ends against the lattice's.
 
+ghost use Rattle.weights.specs.Pair.{two};
 ghost use Rattle.std.specs.Prelude.{◌≡◌, ℕ, suc, ◌+◌, ◌*◌, ◌≤◌, ◌<◌, true, ◌&&◌, [], eqb, length, get_or, min, IfSome, unwrap_or};
 ghost use Rattle.numbers.specs.Lists.{places_in, rows as rows_of};
 ghost use Rattle.lattice.specs.Grid.{Limits, unknowns_of};
 ghost use Rattle.lattice.specs.Lattice.{full_lattice};
-ghost use Rattle.weights.specs.TwoLevels.{two_of, fine_grid};
+ghost use Rattle.weights.specs.TwoLevels.{fine_grid};
 ghost use Rattle.weights.specs.Prolongation.{weight_columns};
-ghost use Rattle.weights.specs.Tables.{Paired};
 ghost use Rattle.operators.specs.LevelLists.{edges_on};
 ghost use Rattle.operators.specs.Levels.{grid_at, pattern_row};
 ghost use Rattle.operators.specs.Numbered.{word_count};
 ghost use Rattle.store.specs.Layout.{forward_cols, turned_cols, forward_off, turned_off, operator_off, next_edges, starts_off, stored_starts, ends_off};
-ghost use Rattle.store.specs.Phases.{HasLines};
+ghost use Rattle.store.specs.Hierarchy.{the_lattice};
+ghost use Rattle.store.specs.Lists.{fixed_of};
 ghost use Rattle.store.specs.PhaseSteps.{held_by};
 ghost use Rattle.store.specs.Calls.{matches, level_matches};
-ghost use Rattle.store.specs.Renewed.{fixed, five, store_of, FixedRoom};
-ghost use Rattle.store.specs.Compare.{rows_match, PartRoom, lines_match, transfer_ok, operator_ok, Gives, Slotted, TurnedBy, term_in, named_in, named_by, Walkable, Begins};
+ghost use Rattle.store.specs.Renewed.{five, store_of, FixedRoom};
+ghost use Rattle.store.specs.Compare.{rows_match, PartRoom, lines_match, transfer_ok, operator_ok, Gives, TurnedBy, term_in, named_in, named_by, Walkable, Begins};
 ghost use Rattle.changes.specs.First.{LowestIn, FirstBadIn};
 
 use lattice::grid::Grid3d;
 use lattice::lattice::Lattice;
-use lattice::levels::Three;
 use lattice::line::Line;
 use lattice::{grid, neighbours};
 use numbers::lists;
 use numbers::terms::Part;
 use operators::pattern;
 use operators::tables::WORDS;
+use store::hierarchy::Hierarchy;
+use store::lists::Structure;
 use store::{Choice, lines, relations};
+use weights::pair::Pair;
+use weights::rows::Places;
 use weights::{rows, tables};
 
 // ---- lists
@@ -72,14 +76,12 @@ fn same_line(f: Line, ends: &[usize], k: usize) -> bool
 }
 
 // The first level a line of which has other ends.
-fn first_ends(l: Lattice, st: &[f64], lines: [Line; 36], m: usize, ends: &[usize]) -> Option<usize>
-    requires limits { Limits l.grid }
-    requires m_bound { m ≤ 11 }
-    requires has_lines { HasLines (full_lattice l st.now) m lines }
-    requires m_in_bounds { ends_off (full_lattice l st.now) (3 * suc m) ≤ length ends.now }
-    ensures { LowestIn (lines_match (full_lattice l st.now) ends.now) (suc m) result }
+fn first_ends(h: &Hierarchy<'_>, ends: &[usize]) -> Option<usize>
+    requires { ends_off (the_lattice h.now) (3 * suc h.now.m) ≤ length ends.now }
+    ensures { LowestIn (lines_match (the_lattice h.now) ends.now) (suc h.now.m) result }
 {
-    let n = 3 * (m + 1);
+    let n = 3 * (h.m + 1);
+    let lines = h.lines;
     let mut next = 0;
     for (q, &f) in lines[..n].iter().enumerate() {
         if !same_line(f, ends, next) {
@@ -92,61 +94,30 @@ fn first_ends(l: Lattice, st: &[f64], lines: [Line; 36], m: usize, ends: &[usize
 
 // ---- transfers
 
-// Whether the forward rows between two levels stand in two lists, row by row; ps and ns are the tables of their slots.
-fn same_weights(
-    l: Lattice,
-    st: &[f64],
-    fine: Three,
-    coarse: Three,
-    ps: &[usize],
-    ns: &[usize],
-    o: Part,
-    starts: &[usize],
-    columns: &[usize],
-) -> bool
-    requires slotted { Slotted (full_lattice l st.now) fine coarse ps.now ns.now }
-    requires part_room { PartRoom (weight_columns (two_of (full_lattice l st.now) fine coarse)) (unknowns_of (fine_grid (two_of (full_lattice l st.now) fine coarse))) o starts.now columns.now }
-    ensures { result ≡ rows_match (weight_columns (two_of (full_lattice l st.now) fine coarse)) (unknowns_of (fine_grid (two_of (full_lattice l st.now) fine coarse))) o
-        starts.now columns.now }
+// Whether the forward rows between two levels stand in two lists, row by row.
+fn same_forward(pair: &Pair<'_>, o: Part, starts: &[usize], columns: &[usize]) -> bool
+    requires part_room { PartRoom (weight_columns (two pair.now)) (unknowns_of (fine_grid (two pair.now))) o starts.now columns.now }
+    ensures { result ≡ rows_match (weight_columns (two pair.now)) (unknowns_of (fine_grid (two pair.now))) o starts.now columns.now }
 {
-    let gf = tables::grid_of(l.grid, fine);
-    let gc = tables::grid_of(l.grid, coarse);
+    let t = tables::slots_of(pair);
+    let gf = t.levels.fine;
+    let p = Places {
+        coarse: t.levels.coarse,
+        places: &t.places,
+        counts: &t.counts,
+    };
     let n = grid::unknowns(gf);
     let s = o.s;
     let mut k = 0;
     for r in 0..n {
         let mut row = [0usize; 8];
-        let count = rows::columns_at(gc, ps, ns, grid::at(gf, r), 0, &mut row);
+        let count = rows::columns_at(&p, grid::at(gf, r), 0, &mut row);
         if !same_row(starts, s + r, k, columns, o.k + k, &row, count) {
             return false;
         }
         k += count;
     }
     starts[s + n] == k
-}
-
-// Whether the forward rows between two levels stand in two lists.
-fn same_forward(
-    l: Lattice,
-    st: &[f64],
-    fine: Three,
-    coarse: Three,
-    o: Part,
-    starts: &[usize],
-    columns: &[usize],
-) -> bool
-    requires paired { Paired (full_lattice l st.now) fine coarse }
-    requires part_room { PartRoom (weight_columns (two_of (full_lattice l st.now) fine coarse)) (unknowns_of (fine_grid (two_of (full_lattice l st.now) fine coarse))) o starts.now columns.now }
-    ensures { result ≡ rows_match (weight_columns (two_of (full_lattice l st.now) fine coarse)) (unknowns_of (fine_grid (two_of (full_lattice l st.now) fine coarse))) o
-        starts.now columns.now }
-{
-    let gf = tables::grid_of(l.grid, fine);
-    let gc = tables::grid_of(l.grid, coarse);
-    let fs = tables::value_places(fine);
-    let cs = tables::value_places(coarse);
-    let ns = tables::counts(l, st, gf, gc, &fs, &cs);
-    let ps = tables::places(l, st, gf, gc, &fs, &cs);
-    same_weights(l, st, fine, coarse, &ps, &ns, o, starts, columns)
 }
 
 // Whether row r is named at the next free place of turned row c, within `count` places from tk on; that place then goes on by one.
@@ -255,100 +226,54 @@ fn same_begins(next: &[usize], tstarts: &[usize], ts: usize, m: usize) -> bool
 }
 
 // Whether the turned rows of a transfer stand in two lists; its forward rows stand in two others.
-fn same_turned(
-    l: Lattice,
-    st: &[f64],
-    lines: [Line; 36],
-    m: usize,
-    level: usize,
-    o: Part,
-    starts: &[usize],
-    columns: &[usize],
-    t: Part,
-    tstarts: &[usize],
-    tcolumns: &[usize],
-) -> bool
-    requires limits { Limits l.grid }
-    requires level_lt_m { (level < m) × (m ≤ 11) }
-    requires has_lines { HasLines (full_lattice l st.now) m lines }
-    requires part_room { PartRoom (forward_cols (full_lattice l st.now) level) (edges_on (full_lattice l st.now) level) o starts.now columns.now }
-    requires part_room_2 { PartRoom (turned_cols (full_lattice l st.now) level) (edges_on (full_lattice l st.now) (suc level)) t tstarts.now tcolumns.now }
-    requires columns_value { rows_match (forward_cols (full_lattice l st.now) level) (edges_on (full_lattice l st.now) level) o starts.now columns.now ≡ true }
-    ensures { result ≡ rows_match (turned_cols (full_lattice l st.now) level) (edges_on (full_lattice l st.now) (suc level)) t tstarts.now tcolumns.now }
+fn same_turned(h: &Hierarchy<'_>, level: usize, o: Part, t: Part, s: &Structure<'_>) -> bool
+    requires level_lt_m { level < h.now.m }
+    requires part_room { PartRoom (forward_cols (the_lattice h.now) level) (edges_on (the_lattice h.now) level) o s.now.starts.now s.now.columns.now }
+    requires part_room_2 { PartRoom (turned_cols (the_lattice h.now) level) (edges_on (the_lattice h.now) (suc level)) t s.now.tstarts.now s.now.tcolumns.now }
+    requires columns_value { rows_match (forward_cols (the_lattice h.now) level) (edges_on (the_lattice h.now) level) o s.now.starts.now s.now.columns.now ≡ true }
+    ensures { result ≡ rows_match (turned_cols (the_lattice h.now) level) (edges_on (the_lattice h.now) (suc level)) t s.now.tstarts.now s.now.tcolumns.now }
 {
-    let n = lines::level_edges(l, st, lines, m, level);
-    let w = lines::level_edges(l, st, lines, m, level + 1);
-    let s = o.s;
-    let count = starts[s + n];
-    let mut next = first_places(tstarts, t.s, w);
+    let n = h.edges(level);
+    let w = h.edges(level + 1);
+    let first = o.s;
+    let count = s.starts[first + n];
+    let mut next = first_places(s.tstarts, t.s, w);
     if !same_turns(
-        starts, s, columns, o.k, n, &mut next, tcolumns, t.k, count, w,
+        s.starts, first, s.columns, o.k, n, &mut next, s.tcolumns, t.k, count, w,
     ) {
         return false;
     }
-    same_begins(&next, tstarts, t.s, w)
+    same_begins(&next, s.tstarts, t.s, w)
 }
 
 // Whether the rows of a transfer, forward and turned, stand in the lists where the layout says.
-fn same_transfer(
-    l: Lattice,
-    st: &[f64],
-    lines: [Line; 36],
-    m: usize,
-    level: usize,
-    o: Part,
-    starts: &[usize],
-    columns: &[usize],
-    t: Part,
-    tstarts: &[usize],
-    tcolumns: &[usize],
-) -> bool
-    requires limits { Limits l.grid }
-    requires level_lt_m { (level < m) × (m ≤ 11) }
-    requires has_lines { HasLines (full_lattice l st.now) m lines }
-    requires part_room { PartRoom (forward_cols (full_lattice l st.now) level) (edges_on (full_lattice l st.now) level) o starts.now columns.now }
-    requires part_room_2 { PartRoom (turned_cols (full_lattice l st.now) level) (edges_on (full_lattice l st.now) (suc level)) t tstarts.now tcolumns.now }
-    ensures { result ≡ (rows_match (forward_cols (full_lattice l st.now) level) (edges_on (full_lattice l st.now) level) o starts.now columns.now
-        && rows_match (turned_cols (full_lattice l st.now) level) (edges_on (full_lattice l st.now) (suc level)) t tstarts.now tcolumns.now) }
+fn same_transfer(h: &Hierarchy<'_>, level: usize, o: Part, t: Part, s: &Structure<'_>) -> bool
+    requires level_lt_m { level < h.now.m }
+    requires part_room { PartRoom (forward_cols (the_lattice h.now) level) (edges_on (the_lattice h.now) level) o s.now.starts.now s.now.columns.now }
+    requires part_room_2 { PartRoom (turned_cols (the_lattice h.now) level) (edges_on (the_lattice h.now) (suc level)) t s.now.tstarts.now s.now.tcolumns.now }
+    ensures { result ≡ (rows_match (forward_cols (the_lattice h.now) level) (edges_on (the_lattice h.now) level) o s.now.starts.now s.now.columns.now
+        && rows_match (turned_cols (the_lattice h.now) level) (edges_on (the_lattice h.now) (suc level)) t s.now.tstarts.now s.now.tcolumns.now) }
 {
-    let fine = lines::three(lines, level);
-    let coarse = lines::three(lines, level + 1);
-    if !same_forward(l, st, fine, coarse, o, starts, columns) {
+    if !same_forward(&h.pair(level), o, s.starts, s.columns) {
         return false;
     }
-    same_turned(
-        l, st, lines, m, level, o, starts, columns, t, tstarts, tcolumns,
-    )
+    same_turned(h, level, o, t, s)
 }
 
 // The first level whose transfer has other starts or columns.
-fn first_transfer(
-    l: Lattice,
-    st: &[f64],
-    lines: [Line; 36],
-    m: usize,
-    starts: &[usize],
-    columns: &[usize],
-    tstarts: &[usize],
-    tcolumns: &[usize],
-) -> Option<usize>
-    requires limits { Limits l.grid }
-    requires m_bound { m ≤ 11 }
-    requires has_lines { HasLines (full_lattice l st.now) m lines }
-    requires m_in_bounds { (starts_off (edges_on (full_lattice l st.now)) m ≤ length starts.now) × (forward_off (full_lattice l st.now) m ≤ length columns.now) }
-    requires m_in_bounds_2 { (starts_off (next_edges (full_lattice l st.now)) m ≤ length tstarts.now) × (turned_off (full_lattice l st.now) m ≤ length tcolumns.now) }
-    ensures { LowestIn (transfer_ok (full_lattice l st.now) m starts.now columns.now tstarts.now tcolumns.now) (suc m) result }
+fn first_transfer(h: &Hierarchy<'_>, s: &Structure<'_>) -> Option<usize>
+    requires m_in_bounds { (starts_off (edges_on (the_lattice h.now)) h.now.m ≤ length s.now.starts.now) × (forward_off (the_lattice h.now) h.now.m ≤ length s.now.columns.now) }
+    requires m_in_bounds_2 { (starts_off (next_edges (the_lattice h.now)) h.now.m ≤ length s.now.tstarts.now) × (turned_off (the_lattice h.now) h.now.m ≤ length s.now.tcolumns.now) }
+    ensures { LowestIn (transfer_ok (the_lattice h.now) h.now.m s.now.starts.now s.now.columns.now s.now.tstarts.now s.now.tcolumns.now) (suc h.now.m) result }
 {
     let mut o = Part { s: 0, k: 0 };
     let mut t = Part { s: 0, k: 0 };
-    for level in 0..m {
-        if !same_transfer(
-            l, st, lines, m, level, o, starts, columns, t, tstarts, tcolumns,
-        ) {
+    for level in 0..h.m {
+        if !same_transfer(h, level, o, t, s) {
             return Some(level);
         }
-        o = lines::behind(o, lines::level_edges(l, st, lines, m, level), starts);
-        t = lines::behind(t, lines::level_edges(l, st, lines, m, level + 1), tstarts);
+        o = lines::behind(o, h.edges(level), s.starts);
+        t = lines::behind(t, h.edges(level + 1), s.tstarts);
     }
     None
 }
@@ -389,51 +314,36 @@ fn same_pattern(
 
 // Whether the rows of level `level` stand in two lists; u gives their columns.
 fn same_operator(
-    l: Lattice,
-    st: &[f64],
-    lines: [Line; 36],
-    m: usize,
+    h: &Hierarchy<'_>,
     level: usize,
     u: &[u64],
     o: Part,
     starts: &[usize],
     columns: &[usize],
 ) -> bool
-    requires limits { Limits l.grid }
-    requires level_le_m { (level ≤ m) × (m ≤ 11) }
-    requires has_lines { HasLines (full_lattice l st.now) m lines }
+    requires level_le_m { level ≤ h.now.m }
     requires u_len { length u.now ≡ word_count }
-    requires by_index { (r : ℕ) → r < edges_on (full_lattice l st.now) level → length (pattern_row (full_lattice l st.now) (grid_at (full_lattice l st.now) level) u.now r) ≤ 12288 }
-    requires part_room { PartRoom (pattern_row (full_lattice l st.now) (grid_at (full_lattice l st.now) level) u.now) (edges_on (full_lattice l st.now) level) o starts.now columns.now }
-    ensures { result ≡ rows_match (pattern_row (full_lattice l st.now) (grid_at (full_lattice l st.now) level) u.now)
-        (edges_on (full_lattice l st.now) level) o starts.now columns.now }
+    requires by_index { (r : ℕ) → r < edges_on (the_lattice h.now) level → length (pattern_row (the_lattice h.now) (grid_at (the_lattice h.now) level) u.now r) ≤ 12288 }
+    requires part_room { PartRoom (pattern_row (the_lattice h.now) (grid_at (the_lattice h.now) level) u.now) (edges_on (the_lattice h.now) level) o starts.now columns.now }
+    ensures { result ≡ rows_match (pattern_row (the_lattice h.now) (grid_at (the_lattice h.now) level) u.now)
+        (edges_on (the_lattice h.now) level) o starts.now columns.now }
 {
-    let g = tables::grid_of(l.grid, lines::three(lines, level));
-    same_pattern(l, st, g, u, o, starts, columns)
+    let g = tables::grid_of(h.l.lattice.grid, h.three(level));
+    same_pattern(h.l.lattice, h.l.st, g, u, o, starts, columns)
 }
 
 // What gives the columns of level `level` + 1; u gives those of level `level`.
-fn next_columns(
-    choice: Choice,
-    l: Lattice,
-    st: &[f64],
-    lines: [Line; 36],
-    m: usize,
-    level: usize,
-    u: &[u64],
-) -> [u64; WORDS]
-    requires limits { Limits l.grid }
-    requires level_lt_m { (level < m) × (m ≤ 11) }
-    requires has_lines { HasLines (full_lattice l st.now) m lines }
-    requires gives { Gives (full_lattice l st.now) choice level u.now }
-    ensures { Gives (full_lattice l st.now) choice (suc level) result }
+fn next_columns(choice: Choice, h: &Hierarchy<'_>, level: usize, u: &[u64]) -> [u64; WORDS]
+    requires level_lt_m { level < h.now.m }
+    requires gives { Gives (the_lattice h.now) choice level u.now }
+    ensures { Gives (the_lattice h.now) choice (suc level) result }
 {
     match choice {
-        Choice::Galerkin => relations::next_relations(l, st, lines, m, level, u),
+        Choice::Galerkin => relations::next_relations(h, level, u),
         Choice::Rediscretized => pattern::base_relations(
-            l,
-            st,
-            tables::grid_of(l.grid, lines::three(lines, level + 1)),
+            h.l.lattice,
+            h.l.st,
+            tables::grid_of(h.l.lattice.grid, h.three(level + 1)),
         ),
     }
 }
@@ -441,22 +351,17 @@ fn next_columns(
 // Level 0, if it is the only one and its operator has other starts or columns.
 fn sole_operator(
     choice: Choice,
-    l: Lattice,
-    st: &[f64],
-    lines: [Line; 36],
-    m: usize,
+    h: &Hierarchy<'_>,
     starts: &[usize],
     columns: &[usize],
 ) -> Option<usize>
-    requires limits { Limits l.grid }
-    requires m_value { m ≡ 0 }
-    requires has_lines { HasLines (full_lattice l st.now) m lines }
-    requires m_in_bounds { (stored_starts (full_lattice l st.now) m (suc m) ≤ length starts.now) × (operator_off (full_lattice l st.now) choice m (suc m) ≤ length columns.now) }
-    ensures { LowestIn (operator_ok (full_lattice l st.now) choice m starts.now columns.now) (suc m) result }
+    requires m_value { h.now.m ≡ 0 }
+    requires m_in_bounds { (stored_starts (the_lattice h.now) h.now.m (suc h.now.m) ≤ length starts.now) × (operator_off (the_lattice h.now) choice h.now.m (suc h.now.m) ≤ length columns.now) }
+    ensures { LowestIn (operator_ok (the_lattice h.now) choice h.now.m starts.now columns.now) (suc h.now.m) result }
 {
-    let u = pattern::base_relations(l, st, l.grid);
+    let u = pattern::base_relations(h.l.lattice, h.l.st, h.l.lattice.grid);
     let o = Part { s: 0, k: 0 };
-    if same_operator(l, st, lines, m, 0, &u, o, starts, columns) {
+    if same_operator(h, 0, &u, o, starts, columns) {
         return None;
     }
     Some(0)
@@ -465,27 +370,22 @@ fn sole_operator(
 // The first of levels 1 to m whose operator has other starts or columns.
 fn coarse_operator(
     choice: Choice,
-    l: Lattice,
-    st: &[f64],
-    lines: [Line; 36],
-    m: usize,
+    h: &Hierarchy<'_>,
     starts: &[usize],
     columns: &[usize],
 ) -> Option<usize>
-    requires limits { Limits l.grid }
-    requires m_nonzero { (0 < m) × (m ≤ 11) }
-    requires has_lines { HasLines (full_lattice l st.now) m lines }
-    requires m_in_bounds { (stored_starts (full_lattice l st.now) m (suc m) ≤ length starts.now) × (operator_off (full_lattice l st.now) choice m (suc m) ≤ length columns.now) }
-    ensures { LowestIn (operator_ok (full_lattice l st.now) choice m starts.now columns.now) (suc m) result }
+    requires m_nonzero { 0 < h.now.m }
+    requires m_in_bounds { (stored_starts (the_lattice h.now) h.now.m (suc h.now.m) ≤ length starts.now) × (operator_off (the_lattice h.now) choice h.now.m (suc h.now.m) ≤ length columns.now) }
+    ensures { LowestIn (operator_ok (the_lattice h.now) choice h.now.m starts.now columns.now) (suc h.now.m) result }
 {
-    let mut u = pattern::base_relations(l, st, l.grid);
+    let mut u = pattern::base_relations(h.l.lattice, h.l.st, h.l.lattice.grid);
     let mut o = Part { s: 0, k: 0 };
-    for level in 0..m {
-        u = next_columns(choice, l, st, lines, m, level, &u);
-        if !same_operator(l, st, lines, m, level + 1, &u, o, starts, columns) {
+    for level in 0..h.m {
+        u = next_columns(choice, h, level, &u);
+        if !same_operator(h, level + 1, &u, o, starts, columns) {
             return Some(level + 1);
         }
-        o = lines::behind(o, lines::level_edges(l, st, lines, m, level + 1), starts);
+        o = lines::behind(o, h.edges(level + 1), starts);
     }
     None
 }
@@ -493,23 +393,17 @@ fn coarse_operator(
 // The first level whose stored operator has other starts or columns.
 fn first_operator(
     choice: Choice,
-    l: Lattice,
-    st: &[f64],
-    lines: [Line; 36],
-    m: usize,
+    h: &Hierarchy<'_>,
     starts: &[usize],
     columns: &[usize],
 ) -> Option<usize>
-    requires limits { Limits l.grid }
-    requires m_bound { m ≤ 11 }
-    requires has_lines { HasLines (full_lattice l st.now) m lines }
-    requires m_in_bounds { (stored_starts (full_lattice l st.now) m (suc m) ≤ length starts.now) × (operator_off (full_lattice l st.now) choice m (suc m) ≤ length columns.now) }
-    ensures { LowestIn (operator_ok (full_lattice l st.now) choice m starts.now columns.now) (suc m) result }
+    requires { (stored_starts (the_lattice h.now) h.now.m (suc h.now.m) ≤ length starts.now) × (operator_off (the_lattice h.now) choice h.now.m (suc h.now.m) ≤ length columns.now) }
+    ensures { LowestIn (operator_ok (the_lattice h.now) choice h.now.m starts.now columns.now) (suc h.now.m) result }
 {
-    if m == 0 {
-        return sole_operator(choice, l, st, lines, m, starts, columns);
+    if h.m == 0 {
+        return sole_operator(choice, h, starts, columns);
     }
-    coarse_operator(choice, l, st, lines, m, starts, columns)
+    coarse_operator(choice, h, starts, columns)
 }
 
 // ---- all
@@ -526,31 +420,14 @@ fn earlier(a: Option<usize>, b: Option<usize>) -> Option<usize>
 }
 
 // The lowest of the levels 0 to m whose starts, columns or ends differ from the lattice's, a transfer counting as its fine level.
-pub fn first_difference(
-    choice: Choice,
-    l: Lattice,
-    st: &[f64],
-    lines: [Line; 36],
-    m: usize,
-    ends: &[usize],
-    starts: &[usize],
-    columns: &[usize],
-    tstarts: &[usize],
-    tcolumns: &[usize],
-    ostarts: &[usize],
-    ocolumns: &[usize],
-) -> Option<usize>
-    requires limits { Limits l.grid }
-    requires m_bound { m ≤ 11 }
-    requires has_lines { HasLines (full_lattice l st.now) m lines }
-    requires m_in_bounds { ends_off (full_lattice l st.now) (3 * suc m) ≤ length ends.now }
-    requires fixed_room { FixedRoom (full_lattice l st.now) choice m (fixed starts.now columns.now tstarts.now tcolumns.now ostarts.now ocolumns.now) }
-    ensures { FirstBadIn 11 (level_matches (full_lattice l st.now) choice m (store_of ends.now
-        (fixed starts.now columns.now tstarts.now tcolumns.now ostarts.now ocolumns.now)
-        (five [] [] [] [] []))) (suc m) result }
+pub fn first_difference(choice: Choice, h: &Hierarchy<'_>, s: &Structure<'_>) -> Option<usize>
+    requires m_in_bounds { ends_off (the_lattice h.now) (3 * suc h.now.m) ≤ length s.now.ends.now }
+    requires fixed_room { FixedRoom (the_lattice h.now) choice h.now.m (fixed_of s.now) }
+    ensures { FirstBadIn 11 (level_matches (the_lattice h.now) choice h.now.m (store_of s.now.ends.now (fixed_of s.now) (five [] [] [] [] [])))
+        (suc h.now.m) result }
 {
-    let e = first_ends(l, st, lines, m, ends);
-    let t = first_transfer(l, st, lines, m, starts, columns, tstarts, tcolumns);
-    let o = first_operator(choice, l, st, lines, m, ostarts, ocolumns);
+    let e = first_ends(h, s.ends);
+    let t = first_transfer(h, s);
+    let o = first_operator(choice, h, s.ostarts, s.ocolumns);
     earlier(e, earlier(t, o))
 }

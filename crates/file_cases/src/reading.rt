@@ -1,9 +1,10 @@
 // One reading of a file, in lists that hold marks before it.
-use case_lines::lists::{Lists, front_mut};
+use case_lines::lists::front_mut;
 use case_lines::shown::{Number, digest};
 use programs::reader::Reader;
 use programs::{feed, reader};
 use std::fmt;
+use store::lists::Lists;
 use store::told::Told;
 
 // What the line `lend` says: the most cells that are taken, the doubles lent to hold the numbers, the places lent of each list.
@@ -71,10 +72,7 @@ impl fmt::Display for Outcome {
 fn fed(file: &[u8], n: usize, limit: usize, held: &mut [f64], l: &mut Lists<'_>) -> Reader {
     let mut r = reader::fresh();
     for piece in file.chunks(n.max(1)) {
-        r = feed::feed(
-            r, limit, piece, held, l.ends, l.eps, l.starts, l.columns, l.values, l.tstarts,
-            l.tcolumns, l.tvalues, l.ostarts, l.ocolumns, l.ovalues, l.scaling,
-        );
+        r = feed::feed(r, limit, piece, held, l);
     }
     r
 }

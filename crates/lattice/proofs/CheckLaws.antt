@@ -1,11 +1,12 @@
 -- The checks of the setup's input: one check behind another, each way through a check, the checks of lists one behind the other, and what a
 -- sound answer tells.
 -- Assumes nothing.
-use Prim.Native.Nat.{ℕ, suc, ◌+◌, ◌-◌, ◌*◌, ◌<◌, ◌≤◌}
+use Prim.Native.Nat.{ℕ, zero, suc, ◌+◌, ◌-◌, ◌*◌, ◌<◌, ◌≤◌}
 use mathlib.Core.Path.{◌≡◌, refl, sym, ◌∙◌, ap}
-use mathlib.Core.Bool.{Bool, true, false, not, ◌||◌, cond, false≢true}
+use mathlib.Core.Bool.{Bool, true, false, not, cond, false≢true}
 use mathlib.Core.List.{List, [], ◌∷◌, ◌++◌}
 use native.Mathlib.Omega.{arith}
+use native.Mathlib.Decide.{dec_lt}
 use native.Mathlib.Numerals.{add-one}
 use native.Mathlib.Nat.{add-zero}
 use borrow.Author.Tests.{eqb-true, eqb-false, ltb-false, eq-eqb, ne_eqb, lt-ltb, le-ltb}
@@ -16,33 +17,20 @@ use Rattle.numbers.specs.Complex.{finite_double}
 use Rattle.numbers.specs.Places.{number_at}
 use Rattle.lattice.specs.Grid.{Limits, unknowns_of}
 use Rattle.lattice.specs.Lattice.{Lengths}
-use Rattle.lattice.specs.Check.{Verdict, accepted, refused, grid_refused, scalar_refused, length_refused, entry_refused, refusal_of, verdict_of, is_sound, and_then, bad_cells, check_grid, bad_length, bad_phase, check_scalars, bad_number, Given, given, stretches, check_lengths, first_bad, check_entries, check_all, check_of, check_stretches}
+use Rattle.lattice.specs.Check.{Verdict, accepted, refused, grid_refused, scalar_refused, length_refused, entry_refused, refusal_of, verdict_of, is_sound, and_then, bad_cells, check_grid, bad_length, bad_phase, check_scalars, bad_number, Given, given, stretches, check_lengths, first_bad, or_count, check_entries, check_all, check_of, check_stretches}
 use Rattle.lattice.specs.declared.grid.Grid3d.{Grid3d}
 use Rattle.lattice.specs.declared.lattice.Lattice.{Lattice}
 use Rattle.lattice.specs.declared.check.Refusal.{Refusal}
 use Rattle.lattice.specs.declared.check.Refusal.TheVariants.{Cells, Scalar, Length, Entry}
-use Rattle.std.specs.Prelude.{⊤, Result, Ok, Err}
-
--- ---- a test or a second one
-
-or_left : (a b : Bool) → (a || b) ≡ false → a ≡ false
-or_left true b e = e
-or_left false b e = refl
-
-or_right : (a b : Bool) → (a || b) ≡ false → b ≡ false
-or_right true true e = e
-or_right true false e = refl
-or_right false b e = e
+use Rattle.std.specs.Option.{MatchOption, IfSome}
+use Rattle.std.specs.Prelude.{⊤, Option, None, Some, Result, Ok, Err}
+use Rattle.std.proofs.lemmas.Bool.{or_parts}
 
 -- ---- one check behind another
 
 pub and_sound : (c d : Verdict) → is_sound c ≡ true → and_then c d ≡ d
 and_sound (accepted n) d e = refl
 and_sound (refused number place) d e = absurd (false≢true e)
-
-and_refused : (c d : Verdict) → is_sound c ≡ false → and_then c d ≡ c
-and_refused (accepted n) d e = absurd (false≢true (sym e))
-and_refused (refused number place) d e = refl
 
 pub and_first : (c d : Verdict) → is_sound (and_then c d) ≡ true → is_sound c ≡ true
 and_first (accepted n) d e = refl
@@ -105,8 +93,8 @@ verdict_of_one c d e = sym (checked_back c) ∙ (ap checked_of e ∙ checked_bac
 pub cells_told : (n : ℕ) → bad_cells n ≡ false → (0 < n) × (n ≤ 64)
 unfolding bad_cells
 cells_told n e =
-    let ne = eqb-false n 0 (or_left (eqb n 0) (ltb 64 n) e) in
-    let h = ltb-false 64 n (or_right (eqb n 0) (ltb 64 n) e) in
+    let ne = eqb-false n 0 ((or_parts (eqb n 0) (ltb 64 n) e).0) in
+    let h = ltb-false 64 n ((or_parts (eqb n 0) (ltb 64 n) e).1) in
     (omega arith, h)
 
 -- a test that leads to a refusal was not met where the answer is sound
@@ -236,7 +224,7 @@ entries_append position (v ∷ vs) ws =
     go true = refl
     go false = refl
 
--- the loop that looks for the first bad number
+-- the first bad number of those from place k on, by the next number
 module _ (xs : List Float) (n k : ℕ) where
   pub bad_turn : k < n → bad_number (number_at xs k) ≡ false → first_bad xs (n - k) k ≡ first_bad xs (n - (k + 1)) (k + 1)
   unfolding first_bad
@@ -255,6 +243,27 @@ module _ (xs : List Float) (n k : ℕ) where
   bad_end h =
       let e : n - k ≡ 0 = omega arith in
       rw e
+
+-- the first bad number, where it is known, and where there is none: of those from place k on
+bad_from : (xs : List Float) (n k i : ℕ) → k ≤ i → i ≤ k + n → ((j : ℕ) → k ≤ j → j < i → bad_number (number_at xs j) ≡ false) → (i < k + n → bad_number (number_at xs i) ≡ true)
+    → i ≡ first_bad xs n k
+unfolding first_bad
+bad_from xs zero k i l h good bad = omega arith
+bad_from xs (suc n) k i l h good bad = go (dec_lt k i) (λ p. bad_from xs n (suc k) i (omega arith) (omega arith) (λ j a b. good j (omega arith) b) (λ b. bad (omega arith)))
+  where
+    go : Dec (k < i) → (k < i → i ≡ first_bad xs n (suc k)) → i ≡ cond (bad_number (number_at xs k)) k (first_bad xs n (suc k))
+    go (yes p) f = rw (good k (omega arith) p) (f p)
+    go (no p) f =
+        let e : i ≡ k = omega arith in
+        let t : bad_number (number_at xs k) ≡ true = rw e at (bad (omega arith)) in
+        rw t e
+
+pub bad_is : (xs : List Float) (n : ℕ) (o : Option ℕ)
+    → MatchOption o ((j : ℕ) → 0 ≤ j → j < n → bad_number (number_at xs j) ≡ false)
+    (λ i. (0 ≤ i) × (i < n) × (bad_number (number_at xs i) ≡ true) × ((j : ℕ) → 0 ≤ j → j < i → bad_number (number_at xs j) ≡ false))
+    → (or_count n o ≡ first_bad xs n 0) × IfSome o (λ k. k < n)
+bad_is xs n None h = (bad_from xs n 0 n (omega arith) (omega arith) h (λ b. absurd (omega arith)), tt)
+bad_is xs n (Some i) h = (bad_from xs n 0 i (omega arith) (omega arith) h.3 (λ b. h.2), h.1)
 
 -- ---- the stretch lists, axis by axis, and the whole, check by check
 

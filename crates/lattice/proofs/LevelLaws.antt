@@ -41,8 +41,11 @@ use Rattle.lattice.proofs.LineLaws.{ends_packed, finest_over, coarser_over, over
 pub power_most : (k : ℕ) → k < 12 → 2 ^ (k + 1) ≤ 4096
 power_most k h = pow-le-pow_right {n = 2} (omega arith) {i = k + 1} {j = 12} (omega arith)
 
-pub power_next : (p k : ℕ) → p ≡ 2 ^ (k + 1) → p * 2 ≡ 2 ^ (k + 1 + 1)
-power_next p k e = rw (e, add-one (k + 1), pow-suc)
+-- 2 shifted by k places
+pub power_shifted : (k : ℕ) → k < 12 → 2 * 2 ^ k % 18446744073709551616 ≡ 2 ^ (k + 1)
+power_shifted k h =
+    let e : 2 ^ (k + 1) ≡ 2 ^ k * 2 = rw (add-one k, pow-suc) in
+    omega (arith, e, power_most k h)
 
 -- a whole number of this size is a double
 pub in_double : (p : ℕ) → p ≤ 4096 → T (in_float binary64 (pos p))
@@ -257,17 +260,6 @@ module _ (v : Lattice) (xn xh yn yh zn zh : List Float) (coarsest : ℕ) where
 
 -- ---- an answer is known by what it means
 
-abbrev depth_in : Verdict → Option ℕ
-depth_in (accepted n) = Some n
-depth_in (refused number place) = None
-
-depth_back : (d : Option ℕ) → depth_in (depth_verdict d) ≡ d
-depth_back (Some n) = refl
-depth_back None = refl
-
-pub depth_verdict_one : (c d : Option ℕ) → depth_verdict c ≡ depth_verdict d → c ≡ d
-depth_verdict_one c d e = sym (depth_back c) ∙ (ap depth_in e ∙ depth_back d)
-
 -- the refusal that means a verdict
 abbrev answer_in : Verdict → Result ℕ Levels.Refusal
 answer_in (accepted n) = Ok n
@@ -296,14 +288,6 @@ depth_some l coarsest (suc n) L e = go (stops l coarsest L) e (depth_some l coar
     go : (b : Bool) → cond b (accepted (suc L)) (depth_from l coarsest n (suc L)) ≡ accepted 0 → (depth_from l coarsest n (suc L) ≡ accepted 0 → ⊥) → ⊥
     go true e r = let z : suc L ≡ 0 = cc in omega arith
     go false e r = r e
-
-pub levels_some : (v : Lattice) (xn xh yn yh zn zh : List Float) (coarsest : ℕ) → levels_of v xn xh yn yh zn zh coarsest ≡ accepted 0 → ⊥
-unfolding levels_of depth_of
-levels_some v xn xh yn yh zn zh coarsest = go (check_stretches v xn xh yn yh zn zh)
-  where
-    go : (c : Verdict) → and_then c (depth_from (lattice_of v xn xh yn yh zn zh) coarsest 12 0) ≡ accepted 0 → ⊥
-    go (accepted n) e = depth_some (lattice_of v xn xh yn yh zn zh) coarsest 12 0 e
-    go (refused number place) e = refused_not e
 
 -- ---- there are at most 12 levels
 

@@ -20,8 +20,8 @@ use lib.Ieee.Exact.{HasValue, round_exact}
 use lib.Ieee.Order.{transfer, le_of_values, round_mono, kept, drop}
 use lib.Ieee.Scale.{round_same}
 use lib.Ieee.Positive.{positive_of_value, between, le_trans_positive}
+use Rattle.std.proofs.lemmas.Bool.{and_parts}
 use Rattle.numbers.specs.declared.C64.{C64}
-use Rattle.numbers.proofs.Laws.{and_left}
 use Rattle.numbers.specs.Complex.{add_f, mul_f, zero_f, no_number, difference, squares}
 use Rattle.lattice.specs.Line.{joins_by, joins}
 use Rattle.lattice.specs.Levels.{target}
@@ -146,7 +146,7 @@ unfolding eq of_bits
 zero_square nan h = absurd (true≢false (sym h))
 zero_square (inf s) h = absurd (true≢false (sym h))
 zero_square (fin s n e) h =
-    let z : n ≡ 0 = zero_factor n (up e) (down e) (up_pos e) (eqb-true _ _ (and_left _ _ h)) in
+    let z : n ≡ 0 = zero_factor n (up e) (down e) (up_pos e) (eqb-true _ _ ((and_parts _ _ h).0)) in
     rw (square_at s n e, z, zero-mul, zero-mul) (round_zero (down e * down e) (mul-pos (down_pos e) (down_pos e)))
 
 -- ---- the numbers: A / c is |re|, and 3 p is T

@@ -10,6 +10,7 @@ use Rattle.lattice.specs.declared.grid.Grid3d.{Grid3d}
 use Rattle.lattice.specs.declared.lattice.Edges.{Edges}
 use Rattle.lattice.specs.declared.lattice.Edges.TheVariants.{Pml, Bloch}
 use Rattle.lattice.specs.declared.lattice.Lattice.{Lattice}
+use Rattle.lattice.specs.declared.input.Stretches.{Stretches}
 use Rattle.lattice.specs.declared.check.Refusal.{Refusal}
 use Rattle.lattice.specs.declared.check.Refusal.TheVariants.{Cells, Scalar, Length, Entry}
 
@@ -102,6 +103,9 @@ abbrev pub stretches : Grid3d → List Float → List Float → List Float → L
 stretches g xn xh yn yh zn zh =
     given g.nx xn ∷ (given g.nx xh ∷ (given g.ny yn ∷ (given g.ny yh ∷ (given g.nz zn ∷ (given g.nz zh ∷ [])))))
 
+abbrev pub given_on : Grid3d → Stretches → List Given
+given_on g on = stretches g on.xn.now on.xh.now on.yn.now on.yh.now on.zn.now on.zh.now
+
 -- 3: a list's length is not the exact count, two doubles a number, at the list's number
 unfoldable pub check_lengths : ℕ → List Given → Verdict
 check_lengths i [] = accepted 0
@@ -137,3 +141,10 @@ check_of v xn xh yn yh zn zh eps = check_all v (stretches v.grid xn xh yn yh zn 
 
 unfoldable pub check_stretches : Lattice → List Float → List Float → List Float → List Float → List Float → List Float → Verdict
 check_stretches v xn xh yn yh zn zh = check_all v (stretches v.grid xn xh yn yh zn zh)
+
+-- of the six lists as they go through the code
+abbrev pub check_on : Lattice → Stretches → List Float → Verdict
+check_on v on = check_of v on.xn.now on.xh.now on.yn.now on.yh.now on.zn.now on.zh.now
+
+abbrev pub check_stretches_on : Lattice → Stretches → Verdict
+check_stretches_on v on = check_stretches v on.xn.now on.xh.now on.yn.now on.yh.now on.zn.now on.zh.now

@@ -10,6 +10,7 @@ use Rattle.lattice.specs.declared.grid.Grid3d.{Grid3d}
 use Rattle.lattice.specs.declared.lattice.Edges.{Edges}
 use Rattle.lattice.specs.declared.lattice.Edges.TheVariants.{Pml, Bloch}
 use Rattle.lattice.specs.declared.lattice.Lattice.{Lattice}
+use Rattle.lattice.specs.declared.input.Stretches.{Stretches}
 use Rattle.numbers.specs.Lists.{tabulate}
 
 -- a lattice with its stretches
@@ -79,6 +80,10 @@ lattice_of v xn xh yn yh zn zh =
       nodes = tabulate (stretch_at v.grid xn yn zn) node_places 0;
       halves = tabulate (stretch_at v.grid xh yh zh) node_places 0;
     }
+
+-- of the six lists as they go through the code
+abbrev pub lattice_on : Lattice → Stretches → FullLattice
+lattice_on v on = lattice_of v on.xn.now on.xh.now on.yn.now on.yh.now on.zn.now on.zh.now
 
 -- three lists with as many numbers as the axes have cells
 pub record Lengths (g : Grid3d) (xs ys zs : List Float) : Type 0 where

@@ -1,5 +1,6 @@
 pub mod Grid
 pub mod Lattice
+pub mod Sound
 pub mod Neighbours
 pub mod Curls
 pub mod Yee

@@ -3,10 +3,11 @@
 ghost use Rattle.std.specs.Prelude.{IfSome, ◌≡◌, ◌+◌, ◌*◌, ◌≤◌, ◌<◌, length, [], ◌∷◌};
 ghost use Rattle.lattice.specs.Grid.{Limits, unknowns_of};
 ghost use Rattle.lattice.specs.Lattice.{Lengths};
-ghost use Rattle.lattice.specs.Check.{verdict_of, bad_cells, check_grid, bad_length, bad_number, bad_phase, check_scalars, given, stretches, check_lengths, first_bad, check_entries, check_of, check_stretches, and_then, or_count};
+ghost use Rattle.lattice.specs.Check.{verdict_of, bad_cells, check_grid, bad_length, bad_number, bad_phase, check_scalars, given, given_on, check_lengths, first_bad, check_entries, check_on, check_stretches_on, and_then, or_count};
 
 use crate::grid;
 use crate::grid::Grid3d;
+use crate::input::Stretches;
 use crate::lattice::{Edges, Lattice};
 use numbers::C64;
 
@@ -106,12 +107,7 @@ fn first_bad(xs: &[f64], n: usize) -> Option<usize>
     requires { length xs.now ≡ 2 * n }
     ensures { (or_count n result ≡ first_bad xs.now n 0) × IfSome result (λ k. k < n) }
 {
-    for k in 0..n {
-        if bad_number(numbers::get(xs, k)) {
-            return Some(k);
-        }
-    }
-    None
+    (0..n).find(|k| bad_number(numbers::get(xs, *k)))
 }
 
 // Refusal 3 of an axis's two lists, which are the lists i and i + 1.
@@ -152,58 +148,34 @@ fn check_lattice(v: Lattice) -> Result<(), Refusal>
 }
 
 // Refusal 3 of the six stretch lists.
-fn stretch_lengths(
-    g: Grid3d,
-    xn: &[f64],
-    xh: &[f64],
-    yn: &[f64],
-    yh: &[f64],
-    zn: &[f64],
-    zh: &[f64],
-) -> Result<(), Refusal>
+fn stretch_lengths(g: Grid3d, on: &Stretches<'_>) -> Result<(), Refusal>
     requires { Limits g }
-    ensures { verdict_of result ≡ check_lengths 0 (stretches g xn.now xh.now yn.now yh.now zn.now zh.now) }
+    ensures { verdict_of result ≡ check_lengths 0 (given_on g on.now) }
 {
-    axis_lengths(0, g.nx, xn, xh)?;
-    axis_lengths(2, g.ny, yn, yh)?;
-    axis_lengths(4, g.nz, zn, zh)
+    axis_lengths(0, g.nx, on.xn, on.xh)?;
+    axis_lengths(2, g.ny, on.yn, on.yh)?;
+    axis_lengths(4, g.nz, on.zn, on.zh)
 }
 
 // Refusal 4 of the six stretch lists.
-fn stretch_entries(
-    g: Grid3d,
-    xn: &[f64],
-    xh: &[f64],
-    yn: &[f64],
-    yh: &[f64],
-    zn: &[f64],
-    zh: &[f64],
-) -> Result<(), Refusal>
+fn stretch_entries(g: Grid3d, on: &Stretches<'_>) -> Result<(), Refusal>
     requires limits { Limits g }
-    requires lengths { Lengths g xn.now yn.now zn.now }
-    requires lengths_2 { Lengths g xh.now yh.now zh.now }
-    ensures { verdict_of result ≡ check_entries 0 (stretches g xn.now xh.now yn.now yh.now zn.now zh.now) }
+    requires lengths { Lengths g on.now.xn.now on.now.yn.now on.now.zn.now }
+    requires lengths_2 { Lengths g on.now.xh.now on.now.yh.now on.now.zh.now }
+    ensures { verdict_of result ≡ check_entries 0 (given_on g on.now) }
 {
-    axis_entries(0, g.nx, xn, xh)?;
-    axis_entries(2 * g.nx, g.ny, yn, yh)?;
-    axis_entries(2 * g.nx + 2 * g.ny, g.nz, zn, zh)
+    axis_entries(0, g.nx, on.xn, on.xh)?;
+    axis_entries(2 * g.nx, g.ny, on.yn, on.yh)?;
+    axis_entries(2 * g.nx + 2 * g.ny, g.nz, on.zn, on.zh)
 }
 
 // The setup's input without its permittivities, as a change has it: refusals 1 to 4.
-pub fn check_stretches(
-    v: Lattice,
-    xn: &[f64],
-    xh: &[f64],
-    yn: &[f64],
-    yh: &[f64],
-    zn: &[f64],
-    zh: &[f64],
-) -> Result<(), Refusal>
-    ensures { verdict_of result ≡ check_stretches v xn.now xh.now yn.now yh.now zn.now zh.now }
+pub fn check_stretches(v: Lattice, on: &Stretches<'_>) -> Result<(), Refusal>
+    ensures { verdict_of result ≡ check_stretches_on v on.now }
 {
     check_lattice(v)?;
-    stretch_lengths(v.grid, xn, xh, yn, yh, zn, zh)?;
-    stretch_entries(v.grid, xn, xh, yn, yh, zn, zh)
+    stretch_lengths(v.grid, on)?;
+    stretch_entries(v.grid, on)
 }
 
 // Refusal 3 of the permittivities, which are list 6, one number for each edge.
@@ -231,21 +203,12 @@ fn eps_entries(g: Grid3d, eps: &[f64]) -> Result<(), Refusal>
 }
 
 // The setup's input: refusals 1 to 4.
-pub fn check(
-    v: Lattice,
-    xn: &[f64],
-    xh: &[f64],
-    yn: &[f64],
-    yh: &[f64],
-    zn: &[f64],
-    zh: &[f64],
-    eps: &[f64],
-) -> Result<(), Refusal>
-    ensures { verdict_of result ≡ check_of v xn.now xh.now yn.now yh.now zn.now zh.now eps.now }
+pub fn check(v: Lattice, on: &Stretches<'_>, eps: &[f64]) -> Result<(), Refusal>
+    ensures { verdict_of result ≡ check_on v on.now eps.now }
 {
     check_lattice(v)?;
-    stretch_lengths(v.grid, xn, xh, yn, yh, zn, zh)?;
+    stretch_lengths(v.grid, on)?;
     eps_length(v.grid, eps)?;
-    stretch_entries(v.grid, xn, xh, yn, yh, zn, zh)?;
+    stretch_entries(v.grid, on)?;
     eps_entries(v.grid, eps)
 }

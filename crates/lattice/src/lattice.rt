@@ -1,10 +1,11 @@
 // The lattice record: grid, axis kinds, wavenumber, shift and stretches.
 
 ghost use Rattle.std.specs.Prelude.{◌≡◌, ◌*◌, ◌<◌, ◌≤◌, length};
-ghost use Rattle.lattice.specs.Lattice.{full_lattice, edges_of, is_wall, nodes_at, halves_at, stretch_at, lattice_of, Lengths, LaidStretches, node_places, stretch_doubles};
+ghost use Rattle.lattice.specs.Lattice.{full_lattice, edges_of, is_wall, nodes_at, halves_at, stretch_at, lattice_on, Lengths, LaidStretches, node_places, stretch_doubles};
 
 use crate::grid;
 use crate::grid::Grid3d;
+use crate::input::Stretches;
 use numbers::C64;
 
 // The doubles of a list of stretches.
@@ -29,7 +30,8 @@ pub struct Lattice {
     pub shift: f64,
 }
 
-// The kind of an axis.
+// The kind of an axis. This and the functions below ask nothing of the grid, so they take the lattice beside its list and not a `Sound`, as do those
+// of the layers above that don't need its limits.
 #[tactic(auto, unfolding(crate::specs::Lattice::edges_of))]
 pub fn edges_on(l: Lattice, st: &[f64], axis: usize) -> Edges
     ensures { result ≡ edges_of (full_lattice l st.now) axis }
@@ -92,22 +94,13 @@ fn lay_stretches(g: Grid3d, xs: &[f64], ys: &[f64], zs: &[f64], from: usize, out
 }
 
 // The list of stretches of a lattice and its six lists. `requires`: the lists have passed refusal 3.
-pub fn stretches(
-    v: Lattice,
-    xn: &[f64],
-    xh: &[f64],
-    yn: &[f64],
-    yh: &[f64],
-    zn: &[f64],
-    zh: &[f64],
-) -> [f64; STRETCH_DOUBLES]
-    requires lengths { Lengths v.grid xn.now yn.now zn.now }
-    requires lengths_2 { Lengths v.grid xh.now yh.now zh.now }
-    ensures { (length result ≡ stretch_doubles) × (full_lattice v result ≡ lattice_of v xn.now xh.now yn.now yh.now
-        zn.now zh.now) }
+pub fn stretches(v: Lattice, on: &Stretches<'_>) -> [f64; STRETCH_DOUBLES]
+    requires lengths { Lengths v.grid on.now.xn.now on.now.yn.now on.now.zn.now }
+    requires lengths_2 { Lengths v.grid on.now.xh.now on.now.yh.now on.now.zh.now }
+    ensures { (length result ≡ stretch_doubles) × (full_lattice v result ≡ lattice_on v on.now) }
 {
     let mut out = [0.0; STRETCH_DOUBLES];
-    lay_stretches(v.grid, xn, yn, zn, 0, &mut out);
-    lay_stretches(v.grid, xh, yh, zh, 192, &mut out);
+    lay_stretches(v.grid, on.xn, on.yn, on.zn, 0, &mut out);
+    lay_stretches(v.grid, on.xh, on.yh, on.zh, 192, &mut out);
     out
 }

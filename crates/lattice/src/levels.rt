@@ -1,14 +1,15 @@
 // The level loop: the lines of all levels, and how many levels there are.
 
 ghost use Rattle.std.specs.Prelude.{◌≡◌, ◌+◌, ◌*◌, ◌<◌};
-ghost use Rattle.lattice.specs.Lattice.{full_lattice};
-ghost use Rattle.lattice.specs.Grid.{Limits};
+ghost use Rattle.lattice.specs.Sound.{full};
 ghost use Rattle.lattice.specs.Line.{Held};
 ghost use Rattle.lattice.specs.declared.levels.Refusal.TheVariants.{Input};
 ghost use Rattle.lattice.specs.Levels.{target as target_of, maps_of, three_at, coarser_three, three_edges, same_cells, no_line, Joined, Answered};
 
+use crate::input::Stretches;
 use crate::lattice::Lattice;
 use crate::line::Line;
+use crate::sound::Sound;
 use crate::{check, lattice, line, stretched};
 use numbers::C64;
 
@@ -63,30 +64,24 @@ pub fn target(level: usize) -> f64
     requires { level < 12 }
     ensures { result ≡ target_of level }
 {
-    let mut power: usize = 2;
-    for _ in 0..level {
-        power *= 2;
-    }
-    power as f64 * 1.5
+    (2usize << level) as f64 * 1.5
 }
 
-fn across_maps(l: Lattice, st: &[f64]) -> Maps
-    requires { Limits l.grid }
-    ensures { result ≡ maps_of (full_lattice l st.now) }
+fn across_maps(l: &Sound<'_>) -> Maps
+    ensures { result ≡ maps_of (full l.now) }
 {
     Maps {
-        x: stretched::across_map(l, st, 0),
-        y: stretched::across_map(l, st, 1),
-        z: stretched::across_map(l, st, 2),
+        x: stretched::across_map(l, 0),
+        y: stretched::across_map(l, 1),
+        z: stretched::across_map(l, 2),
     }
 }
 
 // The finest level's lines.
-fn finest(l: Lattice, st: &[f64]) -> Three
-    requires { Limits l.grid }
-    ensures { result ≡ three_at (full_lattice l st.now) 0 }
+fn finest(l: &Sound<'_>) -> Three
+    ensures { result ≡ three_at (full l.now) 0 }
 {
-    let g = l.grid;
+    let g = l.lattice.grid;
     Three {
         x: line::finest(g.nx),
         y: line::finest(g.ny),
@@ -146,15 +141,15 @@ fn no_line() -> Line
     }
 }
 
-// The levels' lines of a lattice. `requires`: a lattice within the limits; `levels` shows it.
-pub fn join_lines(l: Lattice, st: &[f64], coarsest: usize) -> Lines
-    requires { Limits l.grid }
-    ensures { Joined (full_lattice l st.now) coarsest result }
+// The levels' lines of a lattice.
+pub fn join_lines(l: &Sound<'_>, coarsest: usize) -> Lines
+    ensures { Joined (full l.now) coarsest result }
 {
-    let m = across_maps(l, st);
+    let m = across_maps(l);
     let none = no_line();
     let mut lines = [none; 36];
-    let mut t = finest(l, st);
+    let mut t = finest(l);
+    // A number: the level's three lines stand together, and its target and the depth come of it.
     for level in 0..12 {
         let a = t.x;
         let b = t.y;
@@ -184,26 +179,21 @@ pub fn join_lines(l: Lattice, st: &[f64], coarsest: usize) -> Lines
 }
 
 // The levels' lines of a setup's input: the level count, or refusals 1 to 5.
-pub fn levels(
-    v: Lattice,
-    xn: &[f64],
-    xh: &[f64],
-    yn: &[f64],
-    yh: &[f64],
-    zn: &[f64],
-    zh: &[f64],
-    coarsest: usize,
-) -> LevelLines
-    ensures { Answered v xn.now xh.now yn.now yh.now zn.now zh.now coarsest result }
+pub fn levels(v: Lattice, on: &Stretches<'_>, coarsest: usize) -> LevelLines
+    ensures { Answered v on.now.xn.now on.now.xh.now on.now.yn.now on.now.yh.now on.now.zn.now on.now.zh.now coarsest result }
 {
-    if let Err(c) = check::check_stretches(v, xn, xh, yn, yh, zn, zh) {
+    if let Err(c) = check::check_stretches(v, on) {
         return LevelLines {
             answer: Err(Refusal::from(c)),
             lines: [no_line(); 36],
         };
     }
-    let st = lattice::stretches(v, xn, xh, yn, yh, zn, zh);
-    let found = join_lines(v, &st, coarsest);
+    let st = lattice::stretches(v, on);
+    let l = Sound {
+        lattice: v,
+        st: &st,
+    };
+    let found = join_lines(&l, coarsest);
     let lines = found.lines;
     LevelLines {
         answer: found.depth.ok_or(Refusal::TooMany),

@@ -6,9 +6,11 @@
 pub mod check;
 pub mod curls;
 pub mod grid;
+pub mod input;
 pub mod lattice;
 pub mod levels;
 pub mod line;
 pub mod neighbours;
 pub mod rows;
+pub mod sound;
 pub mod stretched;

@@ -2,11 +2,13 @@
 
 ghost use Rattle.std.specs.Prelude.{◌≡◌, ◌<◌, not, ◌&&◌, eqb};
 ghost use Rattle.lattice.specs.Lattice.{full_lattice};
-ghost use Rattle.lattice.specs.Grid.{Limits, Inside};
+ghost use Rattle.lattice.specs.Sound.{full};
+ghost use Rattle.lattice.specs.Grid.{Inside};
 ghost use Rattle.lattice.specs.Neighbours.{to_place, shifted, neighbour_of, on_wall, fixed_at, is_fixed, is_node_fixed};
 
 use crate::grid::Position;
 use crate::lattice::{Edges, Lattice};
+use crate::sound::Sound;
 use crate::{grid, lattice};
 use numbers::C64;
 
@@ -51,15 +53,19 @@ pub fn shift(e: Edges, n: usize, m: usize, up: bool) -> Option<Arrival>
 }
 
 // The edge to which a step along an axis leads from a position.
-pub fn neighbour(l: Lattice, st: &[f64], p: Position, axis: usize, up: bool) -> Option<Arrival>
-    requires limits { Limits l.grid }
-    requires inside { Inside l.grid p }
-    ensures { result ≡ neighbour_of (full_lattice l st.now) p axis up }
+pub fn neighbour(l: &Sound<'_>, p: Position, axis: usize, up: bool) -> Option<Arrival>
+    requires { Inside l.now.lattice.grid p }
+    ensures { result ≡ neighbour_of (full l.now) p axis up }
 {
-    let e = lattice::edges_on(l, st, axis);
-    let to = shift(e, grid::n(l.grid, axis), grid::place_on(p, axis), up)?;
+    let e = lattice::edges_on(l.lattice, l.st, axis);
+    let to = shift(
+        e,
+        grid::n(l.lattice.grid, axis),
+        grid::place_on(p, axis),
+        up,
+    )?;
     to_place(
-        grid::index(l.grid, grid::moved_to(p, axis, to.at)),
+        grid::index(l.lattice.grid, grid::moved_to(p, axis, to.at)),
         to.phase,
     )
 }
@@ -89,19 +95,18 @@ pub fn fixed_at(l: Lattice, st: &[f64], p: Position) -> bool
 
 // Whether edge r is fixed.
 #[tactic(auto, unfolding(crate::specs::Neighbours::is_fixed))]
-pub fn fixed(l: Lattice, st: &[f64], r: usize) -> bool
-    requires { Limits l.grid }
-    ensures { result ≡ is_fixed (full_lattice l st.now) r }
+pub fn fixed(l: &Sound<'_>, r: usize) -> bool
+    ensures { result ≡ is_fixed (full l.now) r }
 {
-    fixed_at(l, st, grid::at(l.grid, r))
+    fixed_at(l.lattice, l.st, grid::at(l.lattice.grid, r))
 }
 
 // Whether node q is fixed.
 #[tactic(auto, unfolding(crate::specs::Neighbours::is_node_fixed))]
-pub fn node_fixed(l: Lattice, st: &[f64], q: usize) -> bool
-    requires { Limits l.grid }
-    ensures { result ≡ is_node_fixed (full_lattice l st.now) q }
+pub fn node_fixed(l: &Sound<'_>, q: usize) -> bool
+    ensures { result ≡ is_node_fixed (full l.now) q }
 {
-    let p = grid::at(l.grid, q);
-    on_wall(l, st, p, 0) || (on_wall(l, st, p, 1) || on_wall(l, st, p, 2))
+    let p = grid::at(l.lattice.grid, q);
+    on_wall(l.lattice, l.st, p, 0)
+        || (on_wall(l.lattice, l.st, p, 1) || on_wall(l.lattice, l.st, p, 2))
 }

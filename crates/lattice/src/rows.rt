@@ -1,16 +1,16 @@
 // Row r of the operator, term by term in the order pushed, with repeated columns.
-// `requires` of all of them: a grid within the limits, one of its edges, and a permittivity for each edge.
+// `requires` of all of them: one of the grid's edges, and a permittivity for each edge.
 
 ghost use Rattle.std.specs.Prelude.{◌≡◌, ℕ, ◌+◌, ◌*◌, ◌<◌, ◌≤◌, List, length};
 ghost use Rattle.numbers.specs.Places.{number_at};
-ghost use Rattle.lattice.specs.Lattice.{full_lattice};
-ghost use Rattle.lattice.specs.Grid.{unknowns_of, Limits};
+ghost use Rattle.lattice.specs.Sound.{full};
+ghost use Rattle.lattice.specs.Grid.{unknowns_of};
 ghost use Rattle.numbers.specs.Terms.{Term, Wrote, Below, terms_in};
 ghost use Rattle.numbers.specs.Lists.{each};
 ghost use Rattle.lattice.specs.Calls.{Lays, MayLay};
 ghost use Rattle.lattice.specs.Rows.{face_term, face_terms, curl_curl, free_of, free_sum, mean, node_eps, node_term, node_terms, grad_div, row_into};
 
-use crate::lattice::Lattice;
+use crate::sound::Sound;
 use crate::{curls, neighbours};
 use numbers::{C64, terms};
 
@@ -18,8 +18,7 @@ use numbers::{C64, terms};
 
 // A term of curl E at place k, at an edge that is not fixed, times the negated weight of its face.
 fn push_face_term(
-    l: Lattice,
-    st: &[f64],
+    l: &Sound<'_>,
     wh: C64,
     column: usize,
     we: C64,
@@ -27,12 +26,11 @@ fn push_face_term(
     columns: &mut [usize],
     values: &mut [f64],
 ) -> usize
-    requires limits { Limits l.grid }
-    requires k_bound { k < 64 }
-    ensures { Wrote columns.old values.old k (face_term (full_lattice l st.now) wh (record { column = column; number = we }))
+    requires { k < 64 }
+    ensures { Wrote columns.old values.old k (face_term (full l.now) wh (record { column = column; number = we }))
         columns.new values.new result }
 {
-    if neighbours::fixed(l, st, column) {
+    if neighbours::fixed(l, column) {
         return k;
     }
     terms::push(columns, values, k, column, -wh * we)
@@ -63,57 +61,53 @@ fn push_each<F: Fn(usize, C64, usize, &mut [usize], &mut [f64]) -> usize>(
 
 // The terms that a face brings, with the weight that it has in curl H.
 fn face_terms(
-    l: Lattice,
-    st: &[f64],
+    l: &Sound<'_>,
     face: usize,
     wh: C64,
     k: usize,
     columns: &mut [usize],
     values: &mut [f64],
 ) -> usize
-    requires limits { Limits l.grid }
-    requires face_bound { face < unknowns_of l.grid }
+    requires face_bound { face < unknowns_of l.now.lattice.grid }
     requires k_bound { k + 4 < 64 }
-    ensures { Wrote columns.old values.old k (face_terms (full_lattice l st.now) (record { column = face; number = wh }))
+    ensures { Wrote columns.old values.old k (face_terms (full l.now) (record { column = face; number = wh }))
         columns.new values.new result }
 {
     let mut cs = [0usize; 4];
     let mut xs = [0.0; 8];
-    let n = curls::curl_e(l, st, face, &mut cs, &mut xs);
+    let n = curls::curl_e(l, face, &mut cs, &mut xs);
     push_each(
         &cs[..n],
         &xs,
         k,
         columns,
         values,
-        |column, we, k, columns, values| push_face_term(l, st, wh, column, we, k, columns, values),
+        |column, we, k, columns, values| push_face_term(l, wh, column, we, k, columns, values),
     )
 }
 
 // Row r of - curl curl, from place k on.
 pub fn curl_curl_into(
-    l: Lattice,
-    st: &[f64],
+    l: &Sound<'_>,
     r: usize,
     k: usize,
     columns: &mut [usize],
     values: &mut [f64],
 ) -> usize
-    requires limits { Limits l.grid }
-    requires r_bound { r < unknowns_of l.grid }
+    requires r_bound { r < unknowns_of l.now.lattice.grid }
     requires k_bound { k < 40 }
-    ensures { Wrote columns.old values.old k (curl_curl (full_lattice l st.now) r) columns.new values.new result }
+    ensures { Wrote columns.old values.old k (curl_curl (full l.now) r) columns.new values.new result }
 {
     let mut cs = [0usize; 4];
     let mut xs = [0.0; 8];
-    let n = curls::curl_h(l, st, r, &mut cs, &mut xs);
+    let n = curls::curl_h(l, r, &mut cs, &mut xs);
     push_each(
         &cs[..n],
         &xs,
         k,
         columns,
         values,
-        |face, wh, k, columns, values| face_terms(l, st, face, wh, k, columns, values),
+        |face, wh, k, columns, values| face_terms(l, face, wh, k, columns, values),
     )
 }
 
@@ -127,17 +121,16 @@ pub struct Sum {
 }
 
 // The sum of the permittivities of those of some edges that are not fixed.
-fn sum_free(l: Lattice, st: &[f64], eps: &[f64], cs: &[usize]) -> Sum
-    requires limits { Limits l.grid }
+fn sum_free(l: &Sound<'_>, eps: &[f64], cs: &[usize]) -> Sum
     requires few { length cs.now < 64 }
-    requires below { Below (unknowns_of l.grid) cs.now (length cs.now) }
-    requires grid_in_bounds { 2 * unknowns_of l.grid ≤ length eps.now }
-    ensures { result ≡ free_sum (full_lattice l st.now) (number_at eps.now) cs.now }
+    requires below { Below (unknowns_of l.now.lattice.grid) cs.now (length cs.now) }
+    requires grid_in_bounds { 2 * unknowns_of l.now.lattice.grid ≤ length eps.now }
+    ensures { result ≡ free_sum (full l.now) (number_at eps.now) cs.now }
 {
     let mut total = C64::zero();
     let mut count = 0;
     for c in cs {
-        if !neighbours::fixed(l, st, *c) {
+        if !neighbours::fixed(l, *c) {
             total = total + numbers::get(eps, *c);
             count += 1;
         }
@@ -146,14 +139,13 @@ fn sum_free(l: Lattice, st: &[f64], eps: &[f64], cs: &[usize]) -> Sum
 }
 
 // Their mean: 1 where every edge is fixed.
-fn mean_free(l: Lattice, st: &[f64], eps: &[f64], cs: &[usize]) -> C64
-    requires limits { Limits l.grid }
+fn mean_free(l: &Sound<'_>, eps: &[f64], cs: &[usize]) -> C64
     requires few { length cs.now < 64 }
-    requires below { Below (unknowns_of l.grid) cs.now (length cs.now) }
-    requires grid_in_bounds { 2 * unknowns_of l.grid ≤ length eps.now }
-    ensures { result ≡ mean (number_at eps.now) (free_of (full_lattice l st.now) cs.now) }
+    requires below { Below (unknowns_of l.now.lattice.grid) cs.now (length cs.now) }
+    requires grid_in_bounds { 2 * unknowns_of l.now.lattice.grid ≤ length eps.now }
+    ensures { result ≡ mean (number_at eps.now) (free_of (full l.now) cs.now) }
 {
-    let s = sum_free(l, st, eps, cs);
+    let s = sum_free(l, eps, cs);
     if s.count == 0 {
         return C64::one();
     }
@@ -162,24 +154,22 @@ fn mean_free(l: Lattice, st: &[f64], eps: &[f64], cs: &[usize]) -> C64
 }
 
 // The permittivity at node q.
-pub fn node_eps(l: Lattice, st: &[f64], eps: &[f64], q: usize) -> C64
-    requires limits { Limits l.grid }
-    requires q_bound { q < unknowns_of l.grid }
-    requires grid_in_bounds { 2 * unknowns_of l.grid ≤ length eps.now }
-    ensures { result ≡ node_eps (full_lattice l st.now) (number_at eps.now) q }
+pub fn node_eps(l: &Sound<'_>, eps: &[f64], q: usize) -> C64
+    requires q_bound { q < unknowns_of l.now.lattice.grid }
+    requires grid_in_bounds { 2 * unknowns_of l.now.lattice.grid ≤ length eps.now }
+    ensures { result ≡ node_eps (full l.now) (number_at eps.now) q }
 {
     let mut cs = [0usize; 6];
     let mut xs = [0.0; 12];
-    let n = curls::divergence(l, st, q, &mut cs, &mut xs);
-    mean_free(l, st, eps, &cs[..n])
+    let n = curls::divergence(l, q, &mut cs, &mut xs);
+    mean_free(l, eps, &cs[..n])
 }
 
 // ---- the grad-div term
 
 // A term of the divergence at a node, at place k, at an edge that is not fixed.
 fn push_node_term(
-    l: Lattice,
-    st: &[f64],
+    l: &Sound<'_>,
     eps: &[f64],
     wg: C64,
     inverse: C64,
@@ -189,13 +179,12 @@ fn push_node_term(
     columns: &mut [usize],
     values: &mut [f64],
 ) -> usize
-    requires limits { Limits l.grid }
     requires column_in_bounds { 2 * column + 1 < length eps.now }
     requires k_bound { k < 64 }
-    ensures { Wrote columns.old values.old k (node_term (full_lattice l st.now) (number_at eps.now) wg inverse
+    ensures { Wrote columns.old values.old k (node_term (full l.now) (number_at eps.now) wg inverse
         (record { column = column; number = wd })) columns.new values.new result }
 {
-    if neighbours::fixed(l, st, column) {
+    if neighbours::fixed(l, column) {
         return k;
     }
     let w = -(-1.0) * wg * wd;
@@ -205,8 +194,7 @@ fn push_node_term(
 
 // The terms that a node brings, with the weight that it has in the gradient.
 fn node_terms(
-    l: Lattice,
-    st: &[f64],
+    l: &Sound<'_>,
     eps: &[f64],
     q: usize,
     wg: C64,
@@ -214,18 +202,17 @@ fn node_terms(
     columns: &mut [usize],
     values: &mut [f64],
 ) -> usize
-    requires limits { Limits l.grid }
-    requires q_bound { q < unknowns_of l.grid }
-    requires grid_in_bounds { 2 * unknowns_of l.grid ≤ length eps.now }
+    requires q_bound { q < unknowns_of l.now.lattice.grid }
+    requires grid_in_bounds { 2 * unknowns_of l.now.lattice.grid ≤ length eps.now }
     requires k_bound { k + 6 < 64 }
-    ensures { Wrote columns.old values.old k (node_terms (full_lattice l st.now) (number_at eps.now)
+    ensures { Wrote columns.old values.old k (node_terms (full l.now) (number_at eps.now)
         (record { column = q; number = wg })) columns.new values.new result }
 {
     let mut cs = [0usize; 6];
     let mut xs = [0.0; 12];
-    let n = curls::divergence(l, st, q, &mut cs, &mut xs);
+    let n = curls::divergence(l, q, &mut cs, &mut xs);
     let edges = &cs[..n];
-    let inverse = 1.0 / mean_free(l, st, eps, edges);
+    let inverse = 1.0 / mean_free(l, eps, edges);
     push_each(
         edges,
         &xs,
@@ -233,38 +220,36 @@ fn node_terms(
         columns,
         values,
         |column, wd, k, columns, values| push_node_term(
-            l, st, eps, wg, inverse, column, wd, k, columns, values,
+            l, eps, wg, inverse, column, wd, k, columns, values,
         ),
     )
 }
 
 // Row r of the grad-div term, from place k on.
 pub fn grad_div_into(
-    l: Lattice,
-    st: &[f64],
+    l: &Sound<'_>,
     eps: &[f64],
     r: usize,
     k: usize,
     columns: &mut [usize],
     values: &mut [f64],
 ) -> usize
-    requires limits { Limits l.grid }
-    requires r_bound { r < unknowns_of l.grid }
-    requires grid_in_bounds { 2 * unknowns_of l.grid ≤ length eps.now }
+    requires r_bound { r < unknowns_of l.now.lattice.grid }
+    requires grid_in_bounds { 2 * unknowns_of l.now.lattice.grid ≤ length eps.now }
     requires k_bound { k < 40 }
-    ensures { Wrote columns.old values.old k (grad_div (full_lattice l st.now) (number_at eps.now) r)
+    ensures { Wrote columns.old values.old k (grad_div (full l.now) (number_at eps.now) r)
         columns.new values.new result }
 {
     let mut cs = [0usize; 2];
     let mut xs = [0.0; 4];
-    let n = curls::gradient(l, st, r, &mut cs, &mut xs);
+    let n = curls::gradient(l, r, &mut cs, &mut xs);
     push_each(
         &cs[..n],
         &xs,
         k,
         columns,
         values,
-        |q, wg, k, columns, values| node_terms(l, st, eps, q, wg, k, columns, values),
+        |q, wg, k, columns, values| node_terms(l, eps, q, wg, k, columns, values),
     )
 }
 
@@ -272,24 +257,22 @@ pub fn grad_div_into(
 
 // Row r, from place 0 on: at most 29 terms.
 pub fn row_into(
-    l: Lattice,
-    st: &[f64],
+    l: &Sound<'_>,
     eps: &[f64],
     r: usize,
     columns: &mut [usize],
     values: &mut [f64],
 ) -> usize
-    requires limits { Limits l.grid }
-    requires r_bound { r < unknowns_of l.grid }
-    requires grid_in_bounds { 2 * unknowns_of l.grid ≤ length eps.now }
-    ensures { Wrote columns.old values.old 0 (row_into (full_lattice l st.now) (number_at eps.now) r)
+    requires r_bound { r < unknowns_of l.now.lattice.grid }
+    requires grid_in_bounds { 2 * unknowns_of l.now.lattice.grid ≤ length eps.now }
+    ensures { Wrote columns.old values.old 0 (row_into (full l.now) (number_at eps.now) r)
         columns.new values.new result }
 {
-    if neighbours::fixed(l, st, r) {
+    if neighbours::fixed(l, r) {
         return terms::push(columns, values, 0, r, C64::one());
     }
-    let d = l.k0 * l.k0 * numbers::get(eps, r);
+    let d = l.lattice.k0 * l.lattice.k0 * numbers::get(eps, r);
     let k = terms::push(columns, values, 0, r, d);
-    let k1 = curl_curl_into(l, st, r, k, columns, values);
-    grad_div_into(l, st, eps, r, k1, columns, values)
+    let k1 = curl_curl_into(l, r, k, columns, values);
+    grad_div_into(l, eps, r, k1, columns, values)
 }

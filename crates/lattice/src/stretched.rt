@@ -2,11 +2,12 @@
 
 ghost use Rattle.std.specs.Prelude.{◌≡◌, ℕ, ◌*◌, ◌<◌, ◌≤◌};
 ghost use Rattle.lattice.specs.Lattice.{full_lattice};
-ghost use Rattle.lattice.specs.Grid.{Limits};
+ghost use Rattle.lattice.specs.Sound.{full};
 ghost use Rattle.lattice.specs.Stretched.{map_list, across_stretch, along_stretch, across_map, along_map, stretched_of};
 ghost use Rattle.numbers.specs.declared.C64.{C64};
 
 use crate::lattice::Lattice;
+use crate::sound::Sound;
 use crate::{grid, lattice};
 use numbers::C64;
 
@@ -45,43 +46,42 @@ fn across_stretch(l: Lattice, st: &[f64], axis: usize, p: usize) -> C64
 
 // The stretch behind half-step p: that of the nearest node, the last one at the far end.
 #[tactic(auto, using(crate::proofs::GridLaws::n_some, crate::proofs::GridLaws::n_most), unfolding(crate::specs::Stretched::along_stretch))]
-fn along_stretch(l: Lattice, st: &[f64], axis: usize, p: usize) -> C64
-    requires limits { Limits l.grid }
+fn along_stretch(l: &Sound<'_>, axis: usize, p: usize) -> C64
     requires axis_bound { axis < 3 }
     requires p_bound { p < 128 }
-    ensures { result ≡ along_stretch (full_lattice l st.now) axis p }
+    ensures { result ≡ along_stretch (full l.now) axis p }
 {
-    let n = grid::n(l.grid, axis);
-    lattice::node(l, st, axis, ((p + 1) / 2).min(n - 1))
+    let n = grid::n(l.lattice.grid, axis);
+    lattice::node(l.lattice, l.st, axis, ((p + 1) / 2).min(n - 1))
 }
 
 // The map that adds up the cells' stretches.
-pub fn across_map(l: Lattice, st: &[f64], axis: usize) -> [C64; 129]
-    requires limits { Limits l.grid }
-    requires axis_bound { axis < 3 }
-    ensures { result ≡ across_map (full_lattice l st.now) axis }
+pub fn across_map(l: &Sound<'_>, axis: usize) -> [C64; 129]
+    requires { axis < 3 }
+    ensures { result ≡ across_map (full l.now) axis }
 {
-    map_by(grid::n(l.grid, axis), |p| across_stretch(l, st, axis, p))
+    map_by(
+        grid::n(l.lattice.grid, axis),
+        |p| across_stretch(l.lattice, l.st, axis, p),
+    )
 }
 
 // The map that adds up the nodes' stretches.
-pub fn along_map(l: Lattice, st: &[f64], axis: usize) -> [C64; 129]
-    requires limits { Limits l.grid }
-    requires axis_bound { axis < 3 }
-    ensures { result ≡ along_map (full_lattice l st.now) axis }
+pub fn along_map(l: &Sound<'_>, axis: usize) -> [C64; 129]
+    requires { axis < 3 }
+    ensures { result ≡ along_map (full l.now) axis }
 {
-    map_by(grid::n(l.grid, axis), |p| along_stretch(l, st, axis, p))
+    map_by(grid::n(l.lattice.grid, axis), |p| along_stretch(l, axis, p))
 }
 
-// Both maps of an axis. `requires`: a lattice within the limits, and one of its axes.
+// Both maps of an axis. `requires`: one of the lattice's axes.
 #[tactic(auto, unfolding(crate::specs::Stretched::stretched_of))]
-pub fn new(l: Lattice, st: &[f64], axis: usize) -> Stretched
-    requires limits { Limits l.grid }
-    requires axis_bound { axis < 3 }
-    ensures { result ≡ stretched_of (full_lattice l st.now) axis }
+pub fn new(l: &Sound<'_>, axis: usize) -> Stretched
+    requires { axis < 3 }
+    ensures { result ≡ stretched_of (full l.now) axis }
 {
     Stretched {
-        across: across_map(l, st, axis),
-        along: along_map(l, st, axis),
+        across: across_map(l, axis),
+        along: along_map(l, axis),
     }
 }

@@ -2,12 +2,12 @@
 
 #![tactic(auto)]
 
-use programs::feed::Lists;
 use programs::reader::Reader;
-use programs::{lines, reader};
+use programs::{feed, lines, reader};
 use std::io;
 use std::io::Read;
 use store::handed::Cells;
+use store::lists::Lists;
 
 // The most cells that are taken, the places of a list, and the doubles of a list of numbers.
 const LIMIT: usize = 16;
@@ -48,7 +48,7 @@ fn read(input: &mut impl Read, held: &mut [f64], lists: &mut Lists<'_>) -> io::R
         if n == 0 {
             break;
         }
-        r = lists.feed(r, LIMIT, &buf[..n], held);
+        r = feed::feed(r, LIMIT, &buf[..n], held, lists);
     }
     Ok(r)
 }

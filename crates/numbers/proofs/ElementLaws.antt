@@ -1,10 +1,9 @@
 -- Laws of lists and terms: what holds of every element, members, values laid over a list, the first end that is not below a place, rows of one, numbers that are not finite, flags.
 -- Assumes nothing.
-use Prim.Native.Nat.{ℕ, zero, suc, ◌+◌, ◌-◌, ◌*◌, ◌<◌, ◌≤◌}
-use native.Mathlib.Numerals.{add-one}
+use Prim.Native.Nat.{ℕ, zero, suc, ◌+◌, ◌*◌, ◌<◌, ◌≤◌}
 use native.Mathlib.Omega.{arith}
 use mathlib.Core.Path.{◌≡◌, refl, sym, ap, ◌∙◌}
-use mathlib.Core.Bool.{Bool, true, false, false≢true, ◌&&◌, ◌||◌, cond}
+use mathlib.Core.Bool.{Bool, true, false, false≢true, cond, and-false}
 use mathlib.Core.Logic.{◌⊎◌, inl, inr, ⊎_elim}
 use mathlib.Core.List.Memᴰ
 use mathlib.Core.List.{List, [], ◌∷◌, ◌++◌, Memᴰ as In}
@@ -15,13 +14,11 @@ use lib.ListN.{length, get_or, set, replicate, length-set, get_or-replicate}
 use lib.Seq.{get_or-set_other}
 use Rattle.numbers.specs.declared.C64.{C64}
 use Rattle.numbers.specs.Complex.{add_f, sub_f, mul_f, div_f, zero_f, one_f, zero_number, sum, squares, real_over, finite_double, finite, is_zero}
-use Rattle.numbers.specs.Lists.{tabulate, each, rows, laid_by, before, summed, any_flag}
+use Rattle.numbers.specs.Lists.{tabulate, each, rows, laid_by, before, summed}
 use Rattle.numbers.specs.Places.{number_at}
 use Rattle.numbers.specs.Terms.{Term, columns_of, terms_in}
 use Rattle.numbers.proofs.EachLaws.{All, none, more, all_append}
-use Rattle.numbers.proofs.Laws.{or_true, or_false}
 use Rattle.numbers.proofs.ListLaws.{tabulate_more}
-use Rattle.numbers.proofs.FlagLaws.{any_flag_append}
 use Rattle.numbers.proofs.TermLaws as Terms
 
 -- ---- what holds of every element
@@ -145,10 +142,6 @@ zeros_at n k h =
 
 -- ---- numbers that are not finite
 
-right_false : (a : Bool) → (a && false) ≡ false
-right_false true = refl
-right_false false = refl
-
 left_inf : (s : Bool) (y : Float) → (add_f (inf s) y ≡ nan) ⊎ (add_f (inf s) y ≡ inf s)
 unfolding add
 left_inf s nan = inl refl
@@ -202,7 +195,7 @@ re_inf s d =
 
 im_nan : (c : Float) → finite (real_over one_f (record { re = c; im = nan })) ≡ false
 unfolding finite finite_double real_over mul div sub add neg of_bits
-im_nan c = right_false (finite_double (real_over one_f (record { re = c; im = nan })).re)
+im_nan c = and-false (finite_double (real_over one_f (record { re = c; im = nan })).re)
 
 im_inf : (c : Float) (s : Bool) → finite (real_over one_f (record { re = c; im = inf s })) ≡ false
 unfolding finite real_over squares
@@ -210,7 +203,7 @@ im_inf c s =
     let q = square_inf s in
     let e : div_f (mul_f one_f (inf s)) (add_f (mul_f c c) (mul_f (inf s) (inf s))) ≡ nan =
     over_nan s q.0 (add_f (mul_f c c) (mul_f (inf s) (inf s))) (rw q.1 (right_inf (mul_f c c) q.0)) in
-    rw (e, minus_nan, nan_not) (right_false (finite_double (real_over one_f (record { re = c; im = inf s })).re))
+    rw (e, minus_nan, nan_not) (and-false (finite_double (real_over one_f (record { re = c; im = inf s })).re))
 
 parts_over : (c d : Float) → finite (record { re = c; im = d }) ≡ false → finite (real_over one_f (record { re = c; im = d })) ≡ false
 parts_over nan d h = re_nan d
@@ -227,8 +220,8 @@ parts_zero : (c d : Float) → finite (record { re = c; im = d }) ≡ false → 
 unfolding finite finite_double is_zero eq of_bits
 parts_zero nan d h = refl
 parts_zero (inf s) d h = refl
-parts_zero (fin s m e) nan h = right_false (eq (fin s m e) zero_f)
-parts_zero (fin s m e) (inf t) h = right_false (eq (fin s m e) zero_f)
+parts_zero (fin s m e) nan h = and-false (eq (fin s m e) zero_f)
+parts_zero (fin s m e) (inf t) h = and-false (eq (fin s m e) zero_f)
 parts_zero (fin s m e) (fin t n d) h = absurd (false≢true (sym h))
 
 pub not_finite_not_zero : (x : C64) → finite x ≡ false → is_zero x ≡ false
@@ -244,29 +237,3 @@ pub each_single : (cs : List ℕ) → each single cs ≡ cs
 unfolding each
 each_single [] = refl
 each_single (c ∷ cs) = ap (λ (ds : List ℕ). c ∷ ds) (each_single cs)
-
--- a loop over what is given for each of G j, .., G (e - 1): before m none is flagged
-pub record Looking {A : Type 0} (fs : List Bool) (F : A → List ℕ) (G : ℕ → A) (j e m : ℕ) : Type 0 where
-  pub same : any_flag fs (each F (tabulate G (e - m) m)) ≡ any_flag fs (each F (tabulate G (e - j) j))
-
-module _ {A : Type 0} {fs : List Bool} {F : A → List ℕ} {G : ℕ → A} {j e : ℕ} where
-  pub looking_start : Looking fs F G j e j
-  looking_start = record { same = refl }
-
-  module _ {m : ℕ} (p : Looking fs F G j e m) where
-    looking_next : m < e → (any_flag fs (F (G m)) || any_flag fs (each F (tabulate G (e - (m + 1)) (m + 1)))) ≡ any_flag fs (each F (tabulate G (e - j) j))
-    unfolding tabulate each
-    looking_next h =
-        let d : e - m ≡ suc (e - suc m) = omega arith in
-        let t : any_flag fs (F (G m) ++ each F (tabulate G (e - suc m) (suc m))) ≡ any_flag fs (each F (tabulate G (e - j) j)) = rw d at p.same in
-        rw (add-one m) (sym (any_flag_append fs (F (G m)) (each F (tabulate G (e - suc m) (suc m)))) ∙ t)
-
-    pub looking_turn : {b : Bool} → m < e → b ≡ any_flag fs (F (G m)) → b ≡ false → Looking fs F G j e (m + 1)
-    looking_turn h o n = record { same = sym (or_false (any_flag fs (F (G m))) _ (sym o ∙ n)) ∙ looking_next h }
-
-    pub looking_found : {b : Bool} → m < e → b ≡ any_flag fs (F (G m)) → b ≡ true → b ≡ any_flag fs (each F (tabulate G (e - j) j))
-    looking_found h o n = o ∙ sym (or_true (any_flag fs (F (G m))) _ (sym o ∙ n)) ∙ looking_next h
-
-    pub looking_end : e ≤ m → false ≡ any_flag fs (each F (tabulate G (e - j) j))
-    unfolding tabulate each any_flag
-    looking_end h = let d : e - m ≡ 0 = omega arith in rw d at p.same

@@ -1,15 +1,15 @@
 -- The definitions of this layer as equations, by cases: what a layer above cites where no law says more. A definition that changes behind its name changes here.
 -- Assumes nothing.
 use Prim.Native.Nat.{◌*◌, ◌+◌, ◌-◌, ◌/◌, suc, zero, ℕ}
-use mathlib.Core.Bool.{◌&&◌, ◌||◌, cond, false, true}
+use mathlib.Core.Bool.{◌&&◌, cond, false, true}
 use mathlib.Core.List.{List, [], ◌++◌, ◌∷◌}
 use mathlib.Core.Path.{◌≡◌, refl}
 use lib.Dec.{eqb, ltb}
 use lib.Ieee.{Float, nan}
 use lib.ListN.{get_or, length}
 use Rattle.numbers.specs.Collect.{at_first, collected, inserted, summed_at}
-use Rattle.numbers.specs.Complex.{add_f, difference, finite, mul_f, squares, sub_f, sum, zero_f, zero_number}
-use Rattle.numbers.specs.Lists.{all_finite, before, contains, each, laid_by, read_from, repeats, rows, some_repeats, start_of, starts_of, summed, tabulate}
+use Rattle.numbers.specs.Complex.{add_f, difference, finite, mul_f, squares, sub_f, sum}
+use Rattle.numbers.specs.Lists.{all_finite, before, contains, each, laid_by, read_from, rows, start_of, starts_of, summed, tabulate}
 use Rattle.numbers.specs.Places.{number_at, places}
 use Rattle.numbers.specs.Terms.{Term, columns_of, numbers_of, stored_row, terms_in}
 use Rattle.numbers.specs.declared.C64.{C64}
@@ -19,14 +19,6 @@ use Rattle.numbers.specs.declared.C64.{C64}
 pub inserted_nil : (first : (C64 → C64)) (t : Term) → inserted first t [] ≡ (record { column = t.column; number = first t.number } ∷ [])
 unfolding inserted
 inserted_nil first t = refl
-
-pub inserted_cons : (first : (C64 → C64)) (t : Term) (u : Term) (us : List Term) → inserted first t (u ∷ us) ≡ (cond (ltb u.column t.column)
-    (u ∷ inserted first t us)
-    (cond (eqb u.column t.column)
-    (record { column = u.column; number = sum u.number t.number } ∷ us)
-    (record { column = t.column; number = first t.number } ∷ (u ∷ us))))
-unfolding inserted
-inserted_cons first t u us = refl
 
 pub collected_nil : (first : (C64 → C64)) (row : List Term) → collected first row [] ≡ row
 unfolding collected
@@ -49,10 +41,6 @@ unfolding summed_at
 summed_at_cons d s t ts = refl
 
 -- ---- Complex
-
-pub zero_number_is : zero_number ≡ record { re = zero_f; im = zero_f }
-unfolding zero_number
-zero_number_is = refl
 
 pub difference_is : (x : C64) (y : C64) → difference x y ≡ record { re = sub_f x.re y.re; im = sub_f x.im y.im }
 unfolding difference
@@ -115,26 +103,6 @@ starts_of_is row n = refl
 pub contains_nil : (c : ℕ) → contains c [] ≡ false
 unfolding contains
 contains_nil c = refl
-
-pub contains_cons : (c : ℕ) (d : ℕ) (ds : List ℕ) → contains c (d ∷ ds) ≡ (eqb d c || contains c ds)
-unfolding contains
-contains_cons c d ds = refl
-
-pub repeats_nil : repeats [] ≡ false
-unfolding repeats
-repeats_nil = refl
-
-pub repeats_cons : (c : ℕ) (cs : List ℕ) → repeats (c ∷ cs) ≡ (contains c cs || repeats cs)
-unfolding repeats
-repeats_cons c cs = refl
-
-pub some_repeats_zero : (row : (ℕ → List ℕ)) → some_repeats row zero ≡ false
-unfolding some_repeats
-some_repeats_zero row = refl
-
-pub some_repeats_suc : (row : (ℕ → List ℕ)) (n : ℕ) → some_repeats row (suc n) ≡ (some_repeats row n || repeats (row n))
-unfolding some_repeats
-some_repeats_suc row n = refl
 
 pub before_nil : (e : ℕ) → before e [] ≡ 0
 unfolding before

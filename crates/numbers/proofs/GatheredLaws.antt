@@ -12,13 +12,14 @@ use lib.Dec.{eqb}
 use lib.ListN.{length, take, drop, length-drop}
 use lib.Seq.{get_or-drop, take_all}
 use lib.Ieee.{Float}
+use Rattle.std.proofs.lemmas.Bool.{or_cases, or_left, or_right}
 use Rattle.numbers.specs.declared.C64.{C64}
 use Rattle.numbers.specs.Complex.{finite}
 use Rattle.numbers.specs.Places.{number_at}
 use Rattle.numbers.specs.Lists.{In, Rises, tabulate, each, places_in, all_finite, read_from, contains}
 use Rattle.numbers.specs.Terms.{Term, columns_of, numbers_of, terms_in}
 use Rattle.numbers.specs.Collect.{inserted, collected}
-use Rattle.numbers.proofs.Laws.{parts, either_of, or_left, or_right}
+use Rattle.numbers.proofs.Laws.{parts}
 use Rattle.numbers.proofs.EachLaws.{columns_append}
 use Rattle.numbers.proofs.TermLaws.{Holds}
 use Rattle.numbers.proofs.MemberLaws.{Span, contains_in, in_contains}
@@ -39,29 +40,29 @@ module _ (first : C64 → C64) where
   pub inserted_in : (t : Term) (us : List Term) (c : ℕ) → In c (columns_of (inserted first t us)) → (c ≡ t.column) ⊎ In c (columns_of us)
   inserted_in t us c i =
       ⊎_elim (λ h. inr (contains_in c (columns_of us) h)) (λ h. inl (sym (eqb-true t.column c h)))
-      (either_of (contains c (columns_of us)) (eqb t.column c)
+      (or_cases (contains c (columns_of us)) (eqb t.column c)
       (sym (inserted_columns_same first c t us) ∙ in_contains c (columns_of (inserted first t us)) i))
 
   pub in_inserted : (t : Term) (us : List Term) (c : ℕ) → (c ≡ t.column) ⊎ In c (columns_of us) → In c (columns_of (inserted first t us))
   in_inserted t us c h = contains_in c (columns_of (inserted first t us)) (inserted_columns_same first c t us ∙ go h)
     where
       go : (c ≡ t.column) ⊎ In c (columns_of us) → (contains c (columns_of us) || eqb t.column c) ≡ true
-      go (inl e) = or_right (contains c (columns_of us)) (eq-eqb t.column c (sym e))
-      go (inr i) = or_left (eqb t.column c) (in_contains c (columns_of us) i)
+      go (inl e) = or_right (contains c (columns_of us)) _ (eq-eqb t.column c (sym e))
+      go (inr i) = or_left _ (eqb t.column c) (in_contains c (columns_of us) i)
 
   -- terms are put into a row one after another
   pub collected_in : (row ts : List Term) (c : ℕ) → In c (columns_of (collected first row ts)) → In c (columns_of row) ⊎ In c (columns_of ts)
   collected_in row ts c i =
       ⊎_elim (λ h. inl (contains_in c (columns_of row) h)) (λ h. inr (contains_in c (columns_of ts) h))
-      (either_of (contains c (columns_of row)) (contains c (columns_of ts))
+      (or_cases (contains c (columns_of row)) (contains c (columns_of ts))
       (sym (collected_columns_same first c row ts) ∙ in_contains c (columns_of (collected first row ts)) i))
 
   pub in_collected : (row ts : List Term) (c : ℕ) → In c (columns_of row) ⊎ In c (columns_of ts) → In c (columns_of (collected first row ts))
   in_collected row ts c h = contains_in c (columns_of (collected first row ts)) (collected_columns_same first c row ts ∙ go h)
     where
       go : In c (columns_of row) ⊎ In c (columns_of ts) → (contains c (columns_of row) || contains c (columns_of ts)) ≡ true
-      go (inl i) = or_left (contains c (columns_of ts)) (in_contains c (columns_of row) i)
-      go (inr i) = or_right (contains c (columns_of row)) (in_contains c (columns_of ts) i)
+      go (inl i) = or_left _ (contains c (columns_of ts)) (in_contains c (columns_of row) i)
+      go (inr i) = or_right (contains c (columns_of row)) _ (in_contains c (columns_of ts) i)
 
   -- terms alone
   pub gathered_in : (ts : List Term) (c : ℕ) → In c (columns_of (collected first [] ts)) → In c (columns_of ts)

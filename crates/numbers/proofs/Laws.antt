@@ -2,7 +2,7 @@
 -- Assumes nothing.
 use Prim.Native.Nat.{ℕ, ◌+◌, ◌*◌, ◌/◌, ◌<◌, ◌≤◌}
 use mathlib.Core.Path.{◌≡◌, refl, sym, ◌∙◌}
-use mathlib.Core.Logic.{◌≢◌, ◌⊎◌, inl, inr}
+use mathlib.Core.Logic.{◌≢◌}
 use mathlib.Core.List.{List}
 use mathlib.Core.Bool.{Bool, true, false, ◌&&◌, ◌||◌, cond}
 use native.Mathlib.Omega.{arith}
@@ -32,15 +32,6 @@ and_false true true e = refl
 and_false true false e = sym e
 and_false false b e = refl
 
-pub and_left : (a b : Bool) → (a && b) ≡ true → a ≡ true
-and_left true b e = refl
-and_left false b e = e
-
-pub and_right : (a b : Bool) → (a && b) ≡ true → b ≡ true
-and_right true b e = e
-and_right false true e = refl
-and_right false false e = e
-
 pub or_true : (a b : Bool) → a ≡ true → (a || b) ≡ a
 or_true true b e = refl
 or_true false true e = sym e
@@ -68,10 +59,6 @@ finite_is (fin s m e) h = (s, m, e, refl)
 pub finite_both : (x : C64) → finite x ≡ (finite_double x.re && finite_double x.im)
 unfolding finite
 finite_both x = refl
-
-pub finite_parts : (x : C64) → finite x ≡ true → (finite_double x.re ≡ true) × (finite_double x.im ≡ true)
-unfolding finite
-finite_parts x h = (and_left (finite_double x.re) (finite_double x.im) h, and_right (finite_double x.re) (finite_double x.im) h)
 
 -- ---- a list of doubles
 
@@ -126,22 +113,11 @@ module _ (xs : List Float) (k : ℕ) where
   unfolding found_at
   found_none h = rw (le-ltb k (length xs / 2) h)
 
-pub either_of : (a b : Bool) → (a || b) ≡ true → (a ≡ true) ⊎ (b ≡ true)
-either_of true b h = inl h
-either_of false b h = inr h
-
 -- two answers that follow from each other are the same
 pub bool_same : (a b : Bool) → (a ≡ true → b ≡ true) → (b ≡ true → a ≡ true) → a ≡ b
 bool_same true b f g = sym (f refl)
 bool_same false true f g = g refl
 bool_same false false f g = refl
-
-pub or_left : {a : Bool} (b : Bool) → a ≡ true → (a || b) ≡ true
-or_left b h = rw h
-
-pub or_right : (a : Bool) {b : Bool} → b ≡ true → (a || b) ≡ true
-or_right true h = refl
-or_right false h = h
 
 -- std's test of a double
 pub float_finite : (x : Float) → float_is_finite x ≡ finite_double x

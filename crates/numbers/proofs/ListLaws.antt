@@ -3,7 +3,7 @@
 use Prim.Native.Nat.{ℕ, zero, suc, ◌+◌, ◌-◌, ◌*◌, ◌/◌, ◌<◌, ◌≤◌}
 use mathlib.Core.Path.{◌≡◌, refl, sym, ap, ◌∙◌}
 use mathlib.Core.Logic.{◌≢◌}
-use mathlib.Core.Bool.{true, false, ◌&&◌}
+use mathlib.Core.Bool.{◌&&◌}
 use mathlib.Core.List.{List, [], ◌∷◌, ◌++◌}
 use native.Mathlib.Omega.{arith}
 use native.Mathlib.Decide.{ℕ_discrete, dec_lt}
@@ -12,10 +12,11 @@ use native.Mathlib.Nat.{mul-suc}
 use lib.ListN.{length, get_or, set, length-set, length-append, get_or-append}
 use lib.Seq.{get_or-set_same, get_or-set_other, get_or-append-add}
 use lib.Ieee.{Float}
+use Rattle.std.specs.List.{list_all, range_with_len}
 use Rattle.numbers.specs.declared.C64.{C64}
 use Rattle.numbers.specs.Complex.{finite}
 use Rattle.numbers.specs.Places.{places, number_at, set_number}
-use Rattle.numbers.proofs.Laws.{length_set_number, number_same, number_other, and_true, and_false}
+use Rattle.numbers.proofs.Laws.{length_set_number, number_same, number_other}
 use Rattle.numbers.specs.Lists.{Rises, tabulate, rows, laid_by, laid, laid_numbers, Laid, all_finite, start_of, starts_of, entry_at, places_in}
 use Rattle.numbers.proofs.TabulateLaws.{length_tabulate, tabulate_at_0, tabulate_agree}
 
@@ -269,37 +270,14 @@ pub start_agree : {A : Type 0} (f g : ℕ → List A) (n : ℕ) → ((r : ℕ) �
 unfolding start_of
 start_agree f g n h r b = ap length (rows_agree f g r (λ q o. h q (omega arith)))
 
--- ---- whether the numbers of a list are finite, m of n seen
+-- ---- whether the numbers of a list are finite
 
-pub record Seen (xs : List Float) (k n m : ℕ) : Type 0 where
-  pub high : m ≤ n
-  pub same : all_finite (tabulate (number_at xs) (n - m) (k + m)) ≡ all_finite (tabulate (number_at xs) n k)
-
--- the next number, and what is behind it
-seen_next : (xs : List Float) (k n m : ℕ) → m < n
-    → all_finite (tabulate (number_at xs) (n - m) (k + m)) ≡ (finite (number_at xs (k + m)) && all_finite (tabulate (number_at xs) (n - (m + 1)) (k + (m + 1))))
+pub finite_along : (xs : List Float) (k n : ℕ) → list_all (λ m. finite (number_at xs m)) (range_with_len k n) ≡ all_finite (tabulate (number_at xs) n k)
 unfolding tabulate all_finite
-seen_next xs k n m h =
-    let e : n - m ≡ suc (n - (m + 1)) = omega arith in
-    let d : k + (m + 1) ≡ suc (k + m) = omega arith in
-    rw (e, d)
-
-module _ {xs : List Float} {k n : ℕ} where
-  pub seen_start : Seen xs k n 0
-  seen_start =
-      let e : k + 0 ≡ k = omega arith in
-      let d : n - 0 ≡ n = omega arith in
-      record { high = omega arith; same = λ i. all_finite (tabulate (number_at xs) (d i) (e i)) }
-
-  pub seen_turn : {m : ℕ} → Seen xs k n m → m < n → finite (number_at xs (k + m)) ≡ true → Seen xs k n (m + 1)
-  seen_turn {m} p h f = record { high = omega arith; same = sym (seen_next xs k n m h ∙ and_true _ _ f) ∙ p.same }
-
-  pub seen_stop : {m : ℕ} → Seen xs k n m → m < n → finite (number_at xs (k + m)) ≡ false → false ≡ all_finite (tabulate (number_at xs) n k)
-  seen_stop {m} p h f = sym (seen_next xs k n m h ∙ and_false _ _ f ∙ f) ∙ p.same
-
-  pub seen_end : {m : ℕ} → Seen xs k n m → n ≤ m → true ≡ all_finite (tabulate (number_at xs) n k)
-  unfolding tabulate all_finite
-  seen_end {m} p h = let e : n - m ≡ 0 = omega arith in rw e at p.same
+finite_along xs k zero = refl
+finite_along xs k (suc n) =
+    let e : k + 1 ≡ suc k = omega arith in
+    rw e (ap (λ b. finite (number_at xs k) && b) (finite_along xs (suc k) n))
 
 -- ---- lists that rise
 

@@ -13,9 +13,10 @@ use borrow.Author.Tests.{eq-eqb, ne_eqb}
 use lib.Dec.{eqb}
 use lib.ListN.{length, get_or, set, take, length-set}
 use lib.Seq.{get_or-set_same, get_or-set_other, get_or-take, length-take-le, take-suc}
+use Rattle.std.proofs.lemmas.Bool.{and_parts, or_cases, or_left, or_right}
 use Rattle.numbers.specs.Lists.{In, each, contains, any_flag, Marked, entry_at, places_in}
 use Rattle.numbers.specs.Terms.{Below}
-use Rattle.numbers.proofs.Laws.{either_of, or_left, or_right, and_left, and_right, bool_same}
+use Rattle.numbers.proofs.Laws.{bool_same}
 use Rattle.numbers.proofs.ElementLaws.{single, each_single}
 use Rattle.numbers.proofs.FlagLaws.{flagged_any, any_flagged}
 use Rattle.numbers.proofs.MemberLaws.{contains_in, in_contains}
@@ -41,7 +42,7 @@ unfolding contains
 marked_one {c} {xs} h = record { same_long = length-set xs c true; each_is = λ d. go d (ℕ_discrete d c) }
   where
     go : (d : ℕ) → Dec (d ≡ c) → get_or (set xs c true) d false ≡ (get_or xs d false || (true && (eqb c d || false)))
-    go d (yes e) = rw e (get_or-set_same xs c true false h ∙ sym (or_right (get_or xs c false) (or_left false (eq-eqb c c refl))))
+    go d (yes e) = rw e (get_or-set_same xs c true false h ∙ sym (or_right (get_or xs c false) _ (or_left _ false (eq-eqb c c refl))))
     go d (no n) = get_or-set_other xs c d true false n ∙ rw (ne_eqb c d (λ e. n (sym e))) (sym (or-false (get_or xs d false)))
 
 pub marked_append : {us vs : List ℕ} {xs ys zs : List Bool} → Marked true us xs ys → Marked true vs ys zs → Marked true (us ++ vs) xs zs
@@ -132,12 +133,12 @@ module _ (fs : List Bool) (row : ℕ → List ℕ) where
   named_by_lem : (n c : ℕ) → named_by fs row n c ≡ true → (r : ℕ) × (r < n) × (get_or fs r false ≡ true) × In c (row r)
   unfolding named_by
   named_by_lem zero c h = absurd (false≢true h)
-  named_by_lem (suc n) c h = go (named_by_lem n c) (either_of (named_by fs row n c) (get_or fs n false && contains c (row n)) h)
+  named_by_lem (suc n) c h = go (named_by_lem n c) (or_cases (named_by fs row n c) (get_or fs n false && contains c (row n)) h)
     where
       go : (named_by fs row n c ≡ true → (r : ℕ) × (r < n) × (get_or fs r false ≡ true) × In c (row r))
           → (named_by fs row n c ≡ true) ⊎ ((get_or fs n false && contains c (row n)) ≡ true) → (r : ℕ) × (r < suc n) × (get_or fs r false ≡ true) × In c (row r)
       go ih (inl e) = let w = ih e in (w.0, omega (arith, w.1), w.2, w.3)
-      go ih (inr e) = (n, omega arith, and_left (get_or fs n false) (contains c (row n)) e, contains_in c (row n) (and_right (get_or fs n false) (contains c (row n)) e))
+      go ih (inr e) = (n, omega arith, (and_parts (get_or fs n false) (contains c (row n)) e).0, contains_in c (row n) ((and_parts (get_or fs n false) (contains c (row n)) e).1))
 
   by_named : (n c r : ℕ) → r < n → get_or fs r false ≡ true → In c (row r) → named_by fs row n c ≡ true
   unfolding named_by
@@ -145,8 +146,8 @@ module _ (fs : List Bool) (row : ℕ → List ℕ) where
   by_named (suc n) c r h f i = go (by_named n c r) (ℕ_discrete r n)
     where
       go : (r < n → get_or fs r false ≡ true → In c (row r) → named_by fs row n c ≡ true) → Dec (r ≡ n) → (named_by fs row n c || (get_or fs n false && contains c (row n))) ≡ true
-      go ih (yes e) = or_right (named_by fs row n c) (rw (← e, f, in_contains c (row r) i))
-      go ih (no e) = or_left (get_or fs n false && contains c (row n)) (ih (omega arith) f i)
+      go ih (yes e) = or_right (named_by fs row n c) _ (rw (← e, f, in_contains c (row r) i))
+      go ih (no e) = or_left _ (get_or fs n false && contains c (row n)) (ih (omega arith) f i)
 
   module _ (n : ℕ) (w : Mutual n row) where
     -- the rows that the flagged ones name are those that name a flagged one

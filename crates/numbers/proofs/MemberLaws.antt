@@ -10,9 +10,9 @@ use native.Mathlib.Decide.{ℕ_discrete}
 use native.Mathlib.Nat.{le_refl, suc-mul, zero-mul}
 use borrow.Author.Tests.{eq-eqb, eqb-true}
 use lib.Dec.{eqb}
+use Rattle.std.proofs.lemmas.Bool.{or_cases, or_left, or_right}
 use Rattle.numbers.specs.Lists.{In, each, rows, contains}
 use Rattle.numbers.specs.Terms.{Term, columns_of}
-use Rattle.numbers.proofs.Laws.{either_of, or_left, or_right}
 use Rattle.numbers.proofs.EachLaws.{All, more, columns_append, none}
 
 -- rises strictly, from b on and below e
@@ -126,13 +126,13 @@ module _ (f : ℕ → ℕ → List ℕ) (step : ℕ) where
 pub contains_in : (c : ℕ) (cs : List ℕ) → contains c cs ≡ true → In c cs
 unfolding contains
 contains_in c [] h = false≢true h
-contains_in c (d ∷ ds) h = ⊎_elim (λ e. inl (sym (eqb-true d c e))) (λ e. inr (contains_in c ds e)) (either_of (eqb d c) (contains c ds) h)
+contains_in c (d ∷ ds) h = ⊎_elim (λ e. inl (sym (eqb-true d c e))) (λ e. inr (contains_in c ds e)) (or_cases (eqb d c) (contains c ds) h)
 
 pub in_contains : (c : ℕ) (cs : List ℕ) → In c cs → contains c cs ≡ true
 unfolding contains
 in_contains c [] x' = elim x' [ ]
-in_contains c (d ∷ ds) (inl e) = or_left (contains c ds) (eq-eqb d c (sym e))
-in_contains c (d ∷ ds) (inr i) = or_right (eqb d c) (in_contains c ds i)
+in_contains c (d ∷ ds) (inl e) = or_left _ (contains c ds) (eq-eqb d c (sym e))
+in_contains c (d ∷ ds) (inr i) = or_right (eqb d c) _ (in_contains c ds i)
 
 -- the columns of two lists of terms
 pub in_both : (c : ℕ) (ts us : List Term) → In c (columns_of (ts ++ us)) → In c (columns_of ts) ⊎ In c (columns_of us)

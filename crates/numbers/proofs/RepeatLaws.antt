@@ -4,12 +4,15 @@ use Prim.Native.Nat.{ℕ, zero, suc, ◌+◌, ◌-◌, ◌<◌, ◌≤◌}
 use native.Mathlib.Omega.{arith}
 use mathlib.Core.Logic.{◌≢◌}
 use mathlib.Core.Path.{◌≡◌, refl, sym, ap, ◌∙◌}
-use mathlib.Core.Bool.{Bool, true, false}
+use mathlib.Core.Bool.{true, false, ◌||◌}
 use mathlib.Core.List.{List, [], ◌∷◌, ◌++◌}
 use borrow.Author.Tests.{eq-eqb, ne_eqb}
-use lib.ListN.{get_or}
-use Rattle.numbers.specs.Lists.{each, contains, repeats, some_repeats, entry_at, places_in}
+use lib.ListN.{length, get_or, take, drop}
+use Rattle.std.specs.Prelude.{nat_eq}
+use Rattle.std.specs.List.{list_any, range_with_len}
+use Rattle.numbers.specs.Lists.{tabulate, each, contains, repeats, some_repeats, entry_at, places_in}
 use Rattle.numbers.proofs.EachLaws.{All, none, more, all_append}
+use Rattle.numbers.proofs.SliceLaws.{any_contains, between_places}
 use Rattle.numbers.proofs.LoopLaws.{tabulate_left, tabulate_done}
 
 -- ---- lists without repetition
@@ -90,31 +93,21 @@ module _ {cs : List ℕ} {m n c q : ℕ} (p : Seeking cs m n c q) where
       let k : contains c (places_in cs q (n - q)) ≡ false = rw (tabulate_done (entry_at cs) n q h) in
       sym k ∙ p.same
 
--- ---- whether one stands twice among the first n: the same from place m on
+-- ---- whether one stands twice among those from place m to place e - 1: each is sought in the part behind it
 
-pub record Comparing (cs : List ℕ) (n m : ℕ) : Type 0 where
-  pub same : repeats (places_in cs m (n - m)) ≡ repeats (places_in cs 0 n)
+repeats_from : (cs : List ℕ) (e n m : ℕ) → m + n ≡ e → e ≤ length cs
+    → list_any (λ q. list_any (λ y. nat_eq y (get_or cs q 0)) (take (e - (q + 1)) (drop (q + 1) cs))) (range_with_len m n) ≡ repeats (places_in cs m n)
+unfolding tabulate repeats
+repeats_from cs e zero m k h = refl
+repeats_from cs e (suc n) m k h =
+    let l : e - (m + 1) ≡ n = omega arith in
+    let d : m + 1 ≡ suc m = omega arith in
+    let here : list_any (λ y. nat_eq y (get_or cs m 0)) (take (e - (m + 1)) (drop (m + 1) cs)) ≡ contains (get_or cs m 0) (places_in cs (suc m) n) =
+    any_contains _ _ ∙ ap (contains (get_or cs m 0)) (between_places cs (m + 1) e h (omega arith) ∙ (λ i. places_in cs (d i) (l i))) in
+    let more : list_any (λ q. list_any (λ y. nat_eq y (get_or cs q 0)) (take (e - (q + 1)) (drop (q + 1) cs))) (range_with_len (m + 1) n) ≡ repeats (places_in cs (suc m) n) =
+    rw d (repeats_from cs e n (suc m) (omega arith) h) in
+    λ i. here i || more i
 
-pub comparing_start : {cs : List ℕ} {n : ℕ} → Comparing cs n 0
-comparing_start {cs} {n} = let e : n - 0 ≡ n = omega arith in record { same = rw e }
-
-module _ {cs : List ℕ} {n m : ℕ} (p : Comparing cs n m) where
-  pub comparing_hit : {b : Bool} → m < n → b ≡ contains (get_or cs m 0) (places_in cs (m + 1) (n - (m + 1))) → b ≡ true
-      → true ≡ repeats (places_in cs 0 n)
-  unfolding repeats
-  comparing_hit h e t =
-      let k : repeats (places_in cs m (n - m)) ≡ true = rw (tabulate_left (entry_at cs) n m h, ← e, t) in
-      sym k ∙ p.same
-
-  pub comparing_turn : {b : Bool} → m < n → b ≡ contains (get_or cs m 0) (places_in cs (m + 1) (n - (m + 1))) → b ≡ false → Comparing cs n (m + 1)
-  unfolding repeats
-  comparing_turn h e t =
-      let k : repeats (places_in cs m (n - m)) ≡ repeats (places_in cs (m + 1) (n - (m + 1))) =
-      rw (tabulate_left (entry_at cs) n m h, ← e, t) in
-      record { same = sym k ∙ p.same }
-
-  pub comparing_end : n ≤ m → false ≡ repeats (places_in cs 0 n)
-  unfolding repeats
-  comparing_end h =
-      let k : repeats (places_in cs m (n - m)) ≡ false = rw (tabulate_done (entry_at cs) n m h) in
-      sym k ∙ p.same
+pub repeats_along : (cs : List ℕ) (n : ℕ) → n ≤ length cs
+    → list_any (λ q. list_any (λ y. nat_eq y (get_or cs q 0)) (take (n - (q + 1)) (drop (q + 1) cs))) (range_with_len 0 n) ≡ repeats (places_in cs 0 n)
+repeats_along cs n h = repeats_from cs n n 0 (omega arith) h

@@ -18,7 +18,7 @@ use Rattle.numbers.specs.Lists.{rows, laid_by, laid_numbers, Laid, Numbers, star
 use Rattle.numbers.specs.Complex.{no_number}
 use Rattle.numbers.specs.Places.{places, number_at, set_number}
 use Rattle.numbers.proofs.Laws.{length_set_number, number_same, number_other}
-use Rattle.numbers.proofs.ListLaws.{laid_numbers_length, laid_numbers_before, laid_numbers_at, through, laid_append, laid_same, laid_numbers_same, Laying, laying_start, laying_turn, laying_end, starts_first, starts_more}
+use Rattle.numbers.proofs.ListLaws.{laid_numbers_length, laid_numbers_before, laid_numbers_at, through, laid_append, Laying, laying_start, laying_turn, laying_end, starts_first, starts_more}
 
 -- ---- a loop that lays what f gives for one element after another, at most b for each, m of n done
 
@@ -38,18 +38,6 @@ module _ {L E A : Type 0} {put : L → ℕ → A → L} {f : E → List A} {el :
 
   pub going_end : {xs₀ xs : L} {k m l : ℕ} → Going put f el b n from xs₀ xs k m → n ≤ m → n ≡ l → Laid put xs₀ from (rows (through f el) l) xs k
   going_end u h e = rw e at (laying_end u.laying h)
-
-pub going_same : {E : Type 0} {f : E → List ℕ} {el : ℕ → E} {b n from : ℕ} {xs₀ xs : List ℕ} {k m : ℕ}
-    → Going set f el b n from xs₀ xs k m → length xs ≡ length xs₀
-going_same u = laid_same u.laying.wrote
-
-pub going_numbers_same : {E : Type 0} {f : E → List C64} {el : ℕ → E} {b n from : ℕ} {xs₀ xs : List Float} {k m : ℕ}
-    → Going set_number f el b n from xs₀ xs k m → length xs ≡ length xs₀
-going_numbers_same u = laid_numbers_same u.laying.wrote
-
--- one value for another that is the same
-pub one_laid : {L A : Type 0} {put : L → ℕ → A → L} {xs ys : L} {k r : ℕ} {v w : A} → v ≡ w → Laid put xs k (v ∷ []) ys r → Laid put xs k (w ∷ []) ys r
-one_laid e u = rw e at u
 
 -- ---- the starts of the rows: 0 first, and behind each row how far it came
 

@@ -79,28 +79,6 @@ tabulated {A} f g (suc n) k e (suc L) j h p = tabulated f g n (suc k) (tail e) L
     tail : {a b : A} {xs ys : List A} → (a ∷ xs) ≡ (b ∷ ys) → xs ≡ ys
     tail e = cc
 
--- ---- a loop that puts z into a list of n elements from the front, whatever stands there
-
-pub record Leveled {A : Type 0} (z d : A) (n k : ℕ) (xs : List A) : Type 0 where
-  pub long : length xs ≡ n
-  pub done : (i : ℕ) → i < k → get_or xs i d ≡ z
-
-module _ {A : Type 0} {z d : A} {n : ℕ} where
-  pub leveled_start : {xs : List A} → length xs ≡ n → Leveled z d n 0 xs
-  leveled_start l = record { long = l; done = λ i h. absurd (omega arith) }
-
-  pub leveled_turn : {k : ℕ} {xs : List A} → Leveled z d n k xs → k < n → Leveled z d n (k + 1) (set xs k z)
-  leveled_turn {k} {xs} p b =
-      record {
-        long = length-set xs k z ∙ p.long;
-        done = below_more (λ (i : ℕ). get_or (set xs k z) i d ≡ z) k
-            (λ i h. get_or-set_other xs k i z d (omega arith) ∙ p.done i h)
-            (get_or-set_same xs k z d (omega (arith, p.long)));
-      }
-
-  pub leveled_end : {k : ℕ} {xs : List A} → Leveled z d n k xs → n ≤ k → xs ≡ replicate n z
-  leveled_end p b = is_replicate n z d _ p.long (λ i h. p.done i (omega arith))
-
 -- ---- a loop that fills an array of n elements from the front: f i at each place below k, and still z from there on.
 -- d is what a read past the end gives.
 

@@ -11,8 +11,9 @@ use mathlib.Core.List.{List, [], ◌∷◌, ◌++◌, append-nil, map}
 use borrow.Author.Tests.{eq-eqb, ne_eqb, eqb-true}
 use lib.Dec.{eqb}
 use lib.ListN.{length, get_or, replicate, length-append, length-replicate, get_or-replicate, get_or-append}
-use lib.Seq.{get_or-append-add}
+use lib.Seq.{get_or-append_right}
 use lib.Ieee.{Float}
+use Rattle.std.proofs.lemmas.List.{map-append}
 use Rattle.numbers.specs.declared.C64.{C64}
 use Rattle.numbers.specs.Complex.{no_number}
 use Rattle.numbers.specs.Places.{number_at}
@@ -156,11 +157,6 @@ Apart d cs = (i j : ℕ) → i < j → j < length cs → get_or cs i 0 + d ≤ g
 abbrev names_of : (ℕ → List Term) → ℕ → ℕ → List ℕ
 names_of row c r = replicate (length (weights_at c (row r))) r
 
-behind_at : (xs ys : List ℕ) (j : ℕ) → length xs ≤ j → get_or (xs ++ ys) j 0 ≡ get_or ys (j - length xs) 0
-behind_at xs ys j h =
-    let e : length xs + (j - length xs) ≡ j = omega arith in
-    ap (λ (k : ℕ). get_or (xs ++ ys) k 0) (sym e) ∙ get_or-append-add xs ys (j - length xs) 0
-
 -- some numbers below n, then n itself m times
 apart_more : (d n m : ℕ) (xs : List ℕ) → d ≤ 1 → (1 < m → d ≡ 0) → ((i : ℕ) → i < length xs → get_or xs i 0 < n) → Apart d xs → Apart d (xs ++ replicate m n)
 apart_more d n m xs o s low p i j h k = go (dec_lt j (length xs)) (dec_lt i (length xs))
@@ -169,7 +165,7 @@ apart_more d n m xs o s low p i j h k = go (dec_lt j (length xs)) (dec_lt i (len
     l = length-append xs (replicate m n) ∙ ap (λ (q : ℕ). length xs + q) (length-replicate m n)
 
     at : (q : ℕ) → length xs ≤ q → q < length (xs ++ replicate m n) → get_or (xs ++ replicate m n) q 0 ≡ n
-    at q b c = behind_at xs (replicate m n) q b ∙ get_or-replicate m (q - length xs) n 0 (omega (arith, l))
+    at q b c = get_or-append_right xs (replicate m n) q 0 b ∙ get_or-replicate m (q - length xs) n 0 (omega (arith, l))
 
     go : Dec (j < length xs) → Dec (i < length xs) → get_or (xs ++ replicate m n) i 0 + d ≤ get_or (xs ++ replicate m n) j 0
     go (yes b) y = rw (get_or-append xs (replicate m n) 0 i (omega arith), get_or-append xs (replicate m n) 0 j b) (p i j h b)
@@ -201,7 +197,7 @@ module _ (row : ℕ → List Term) (c : ℕ) where
       go (yes b) k = rw (get_or-append (rows (names_of row c) n) (names_of row c n) 0 i b) (omega (arith, k b))
       go (no b) k =
           rw (
-            behind_at (rows (names_of row c) n) (names_of row c n) i (omega arith),
+            get_or-append_right (rows (names_of row c) n) (names_of row c n) i 0 (omega arith),
             get_or-replicate m (i - length (rows (names_of row c) n)) n 0
                 (omega (arith, length-append (rows (names_of row c) n) (names_of row c n), length-replicate m n)),
           )
@@ -281,10 +277,6 @@ turned_sorted row n c e = turned_rises row c n (λ r h. named_once c (row r) (no
 abbrev pub number_no : (ℕ → List Term) → ℕ → C64 → ℕ → C64
 number_no row n d k = get_or (numbers_of (rows row n)) k d
 
-pub map_append : {A B : Type 0} (f : A → B) (xs ys : List A) → map f (xs ++ ys) ≡ map f xs ++ map f ys
-map_append f [] ys = refl
-map_append {A} {B} f (x ∷ xs) ys = ap (λ (zs : List B). f x ∷ zs) (map_append f xs ys)
-
 -- the weights at a column are read where it stands
 pub found_read : (c : ℕ) (f : ℕ → C64) (d : C64) (ts : List Term) (k : ℕ) → ((j i : ℕ) → i ≡ k + j → j < length ts → f i ≡ get_or (numbers_of ts) j d)
     → weights_at c ts ≡ map f (found_from c k (columns_of ts))
@@ -329,7 +321,7 @@ module _ (row : ℕ → List Term) where
   turned_reads_lem n c d =
       numbers_rows (turned_part row c) n
       ∙ (rows_agree (through numbers_of (turned_part row c)) (through (map (number_no row n d)) (found_part (through columns_of row) c)) n each
-      ∙ sym (rows_through (map (number_no row n d)) refl (map_append (number_no row n d)) (found_part (through columns_of row) c) n))
+      ∙ sym (rows_through (map (number_no row n d)) refl (map-append (number_no row n d)) (found_part (through columns_of row) c) n))
     where
       each : (r : ℕ) → r < n → numbers_of (turned_from c r (row r)) ≡ map (number_no row n d) (found_from c (start_of (through columns_of row) r) (columns_of (row r)))
       each r h =

@@ -53,12 +53,7 @@ pub fn finite_numbers(list: &[f64], k: usize, n: usize) -> bool
     requires { (k + n < 2 ^ 40) × (2 * (k + n) ≤ length list.now) }
     ensures { result ≡ all_finite (tabulate (number_at list.now) n k) }
 {
-    for m in 0..n {
-        if !crate::get(list, k + m).is_finite() {
-            return false;
-        }
-    }
-    true
+    (k..k + n).all(|m| crate::get(list, m).is_finite())
 }
 
 // Whether position c is flagged; one past the flags is not.
@@ -97,10 +92,5 @@ pub fn repeats(columns: &[usize], n: usize) -> bool
     requires { n ≤ length columns.now }
     ensures { result ≡ repeats_in (places_in columns.now 0 n) }
 {
-    for m in 0..n {
-        if columns[m + 1..n].contains(&columns[m]) {
-            return true;
-        }
-    }
-    false
+    (0..n).any(|m| columns[m + 1..n].contains(&columns[m]))
 }

@@ -22,19 +22,19 @@ use Rattle.weights.specs.CoarseEps.{edge_along}
 use Rattle.weights.specs.Tables.{node_no, NestedIn, cell_first, cell_last}
 use Rattle.weights.specs.TwoLevels.{TwoLevels, fine_line, coarse_line, fine_cells, coarse_cells, fine_grid, coarse_grid, grid_with, two_of}
 use Rattle.weights.proofs.EpsLaws.{nodes_nested}
-use Rattle.weights.proofs.Equations.{coarse_cells_is, fine_cells_is, edge_along_is, edges_along_is}
+use Rattle.weights.proofs.Equations.{coarse_cells_is, fine_cells_is, edge_along_is}
 use Rattle.weights.proofs.TwoLevelLaws.{fine_n, coarse_n, node_at, fine_grid_lem, coarse_grid_lem}
 use Rattle.operators.specs.declared.averaged.Cell.{Cell}
 use Rattle.operators.specs.declared.averaged.Counts.{Counts}
 use Rattle.operators.specs.declared.averaged.Hat.{Hat}
-use Rattle.operators.specs.Averaged.{node_in, around, hats_around, hats_on, line_edges, hat_edges, hat_lines, cell_start, cell_count, weigh_all, nothing, mean_of, averaged_at, averaged_eps, averaged_reads, HatsLaid, NodesFrom, no_hat, hat_at, hats_in, NodesBelow, CellReady, cell_in, HatsFit, HatsAcross, LinePair, PairedLines}
-use Rattle.operators.proofs.AverageLaws.{Moved, first_same, count_same, fit_below, hats_cut, cell_ready}
+use Rattle.operators.specs.Averaged.{node_in, around, hats_around, hats_on, hat_edges, hat_lines, cell_start, cell_count, weigh_all, nothing, mean_of, averaged_at, averaged_eps, averaged_reads, HatsLaid, NodesFrom, no_hat, hat_at, hats_in, NodesBelow, CellReady, cell_in, HatsFit, HatsAcross, LinePair, PairedLines}
+use Rattle.operators.proofs.AverageLaws.{first_same, count_same, fit_below, hats_cut, cell_ready}
 use Rattle.numbers.proofs.FlagLaws.{any_flag_one, any_flag_append}
+use Rattle.numbers.proofs.ElementLaws.{single}
 use Rattle.numbers.proofs.Laws.{or_true, or_false}
-use Rattle.numbers.proofs.ElementLaws.{Looking, looking_found, looking_end, single, each_single}
 use Rattle.std.proofs.lemmas.List.{at_drop_more, at_drop_all}
 use Rattle.weights.proofs.LevelLines.{two_base, two_fine, two_coarse, lines_on, node_is}
-use Rattle.operators.proofs.HatLaws.{Below, below_in, hats_as, hats_same, around_most, around_below, ends_cells, block_apart, block_read, block_same}
+use Rattle.operators.proofs.HatLaws.{Below, below_in, hats_as, hats_same, around_most, around_below, ends_cells, block_read}
 
 -- ---- the hats around a node of an axis of two levels
 
@@ -85,10 +85,16 @@ module _ {l : FullLattice} {fine coarse : Three} (q : PairedLines l fine coarse)
       rw (fine_cells_is t a, ← fine_on refl refl, ← around_is refl refl m refl refl)
       (around_below (pair_on refl refl) (is_wall (edges_of l a)) m (rw (cells_on_lem refl refl) at h))
 
--- hats that stand in the first or the second 128 places of a list of 256
-block_fit : {u b n : ℕ} {xs hs : List Hat} → hats_in xs (128 * b) n ≡ hs → Below u hs → n ≤ 127 → b ≤ 1 → length xs ≡ 256 → HatsFit u (128 * b) n xs
-block_fit {u} {b} {n} {xs} e p few low x =
-    record { room = omega arith; nodes_in = λ q h. below_in u xs (128 * b) n (rw e p) (128 * b + q) q refl h }
+-- hats laid from a list's start on, read back
+first_read : {xs ys hs : List Hat} {n : ℕ} → HatsLaid xs 0 hs ys n → length hs ≤ 127 → length xs ≡ 128 → hats_in ys 0 n ≡ hs
+first_read {hs = hs} {n} p few long = let e : n ≡ length hs = omega (arith, p.next) in rw e (block_read 0 p few (omega arith))
+
+first_fit : {u n : ℕ} {xs ys hs : List Hat} → HatsLaid xs 0 hs ys n → Below u hs → length hs ≤ 127 → length xs ≡ 128 → HatsFit u 0 n ys
+first_fit {u} {n} {ys = ys} p b few long =
+    record {
+      room = omega (arith, p.next, hats_same p);
+      nodes_in = λ q h. below_in u ys 0 n (rw (first_read p few long) b) (0 + q) q refl h;
+    }
 
 -- ---- those around an edge's node on the axes across it
 
@@ -96,46 +102,22 @@ module _ {l : FullLattice} {fine coarse : Three} (q : PairedLines l fine coarse)
   pub place_there : (a : ℕ) {m : ℕ} → m ≡ place_on p a → m < coarse_cells (two_of l fine coarse) a
   place_there a o = rw o (omega (arith, place_inside inside a, coarse_n (two_of l fine coarse) a))
 
-  pub across_are : {b c i j x y : ℕ} {xs xs₁ xs₂ : List Hat} → b ≡ next_axis p.component → c ≡ last_axis p.component
-      → i ≡ place_on p b → j ≡ place_on p c → length xs ≡ 256
-      → HatsLaid xs 0 (hats_around (two_of l fine coarse) b i) xs₁ x
-      → HatsLaid xs₁ 128 (hats_around (two_of l fine coarse) c j) xs₂ y
-      → HatsAcross (two_of l fine coarse) p xs₂ (record { next = x; last = y - 128 })
+  pub across_are : {b c i j x y : ℕ} {xs xs' ys ys' : List Hat} → b ≡ next_axis p.component → c ≡ last_axis p.component
+      → i ≡ place_on p b → j ≡ place_on p c → (length xs ≡ 128) × (length ys ≡ 128)
+      → HatsLaid xs 0 (hats_around (two_of l fine coarse) b i) xs' x
+      → HatsLaid ys 0 (hats_around (two_of l fine coarse) c j) ys' y
+      → HatsAcross (two_of l fine coarse) p xs' ys' (record { next = x; last = y })
   unfolding hats_on
-  across_are {b} {c} {i} {j} {x} {y} {xs} {xs₁} {xs₂} eb ec ei ej long u v =
+  across_are {b} {c} {i} {j} eb ec ei ej long u v =
+      let s : TwoLevels = two_of l fine coarse in
+      let few : length (hats_around s b i) ≤ 127 = around_few q b i (place_there b ei) in
+      let few' : length (hats_around s c j) ≤ 127 = around_few q c j (place_there c ej) in
       record {
-        next_are = rw (← eb, ← ei) first;
-        last_are = rw (← ec, ← ej) second;
-        next_fit = rw (fine_n s (next_axis p.component), ← eb) (block_fit {b = 0} first (around_in q b i (place_there b ei)) (omega (arith, few, count)) (omega arith) longs.1);
-        last_fit = rw (fine_n s (last_axis p.component), ← ec) (block_fit {b = 1} second (around_in q c j (place_there c ej)) (omega (arith, few', count')) (omega arith) longs.1);
+        next_are = rw (← eb, ← ei) (first_read u few long.0);
+        last_are = rw (← ec, ← ej) (first_read v few' long.1);
+        next_fit = rw (fine_n s (next_axis p.component), ← eb) (first_fit u (around_in q b i (place_there b ei)) few long.0);
+        last_fit = rw (fine_n s (last_axis p.component), ← ec) (first_fit v (around_in q c j (place_there c ej)) few' long.1);
       }
-    where
-      s : TwoLevels
-      s = two_of l fine coarse
-
-      few : length (hats_around s b i) ≤ 127
-      few = around_few q b i (place_there b ei)
-
-      few' : length (hats_around s c j) ≤ 127
-      few' = around_few q c j (place_there c ej)
-
-      count : x ≡ length (hats_around s b i)
-      count = omega (arith, u.next)
-
-      count' : y - 128 ≡ length (hats_around s c j)
-      count' = omega (arith, v.next)
-
-      longs : (length xs₁ ≡ 256) × (length xs₂ ≡ 256)
-      longs = (hats_same u ∙ long, hats_same v ∙ hats_same u ∙ long)
-
-      first : hats_in xs₂ 0 x ≡ hats_around s b i
-      first =
-          rw count
-          (block_same xs₁ xs₂ 0 (length (hats_around s b i)) few (λ k h. block_apart {b = 1} v few' 0 k (omega arith) h)
-          ∙ block_read 0 u few (omega (arith, long)))
-
-      second : hats_in xs₂ 128 (y - 128) ≡ hats_around s c j
-      second = rw count' (block_read 1 v few' (omega (arith, longs.0)))
 
 -- ---- one edge: the code's grid, node numbers and position are those of the levels
 
@@ -166,9 +148,6 @@ module _ {l : FullLattice} {fine coarse : Three} (q : PairedLines l fine coarse)
       }
 
 module _ {l : FullLattice} {fine coarse : Three} {gf : Grid3d} {nn : List ℕ} {p : Position} {r : ℕ} (e : Edge l fine coarse gf nn p r) where
-  pub edge_limits : Limits gf
-  edge_limits = rw e.grid e.lines.paired.fine_limits
-
   pub edge_inside : Inside (coarse_grid (two_of l fine coarse)) p
   edge_inside = rw e.at (at_inside e.lines.paired.coarse_limits r e.low)
 
@@ -192,19 +171,19 @@ module _ {l : FullLattice} {fine coarse : Three} {gf : Grid3d} {nn : List ℕ} {
     unfolding cell_in
     cell_unknowns = ap (λ (x : Cell). unknowns_of x.grid) o ∙ edge_unknowns
 
-    module _ {xs : List Hat} {k : Counts} (h : HatsAcross (two_of l fine coarse) p xs k) where
-      -- the hats that the code cuts out of the list
+    module _ {xs ys : List Hat} {k : Counts} (h : HatsAcross (two_of l fine coarse) p xs ys k) where
+      -- the hats that the code cuts out of the lists
       abbrev pub nexts : List Hat
       nexts = take k.next xs
 
       abbrev pub lasts : List Hat
-      lasts = take (128 + k.last - 128) (drop 128 xs)
+      lasts = take k.last ys
 
       next_cut : nexts ≡ hats_in xs 0 k.next
       next_cut = hats_cut xs 0 k.next h.next_fit.room
 
-      last_cut : lasts ≡ hats_in xs 128 k.last
-      last_cut = let d : 128 + k.last - 128 ≡ k.last = omega arith in rw d (hats_cut xs 128 k.last h.last_fit.room)
+      last_cut : lasts ≡ hats_in ys 0 k.last
+      last_cut = hats_cut ys 0 k.last h.last_fit.room
 
       pub next_below : NodesBelow (n_of c.grid (next_axis c.p.component)) nexts
       unfolding cell_in
@@ -233,20 +212,6 @@ module _ {l : FullLattice} {fine coarse : Three} {gf : Grid3d} {nn : List ℕ} {
           ∙ (λ i. any_flag fs (each (hat_edges (o i).grid (o i).p (o i).first ((o i).last - (o i).first) (last_cut i)) (next_cut i)))
           ∙ (λ i. any_flag fs (each (hat_edges (e.grid i) p (first_is i) (count_is i) (h.last_are i)) (h.next_are i)))
           ∙ ap (λ (x : Position). any_flag fs (each (hat_lines (two_of l fine coarse) x) (hats_on (two_of l fine coarse) x (next_axis x.component)))) e.at
-
--- ---- whether an edge of a line is flagged
-
-module _ (g : Grid3d) {p q : Position} (h k : Hat) (w : Moved p h.node k.node q) where
-  line_are : (first n : ℕ) → line_edges g p first n h k ≡ each single (tabulate (edge_along g q) n first)
-  unfolding line_edges
-  line_are first n = rw (← w.is) (edges_along_is g q first n ∙ sym (each_single (tabulate (edge_along g q) n first)))
-
-  module _ {fs : List Bool} {first last m : ℕ} (s : Looking fs single (edge_along g q) first last m) where
-    pub line_found : {b : Bool} → m < last → b ≡ any_flag fs (single (edge_along g q m)) → b ≡ true → b ≡ any_flag fs (line_edges g p first (last - first) h k)
-    line_found a o t = looking_found s a o t ∙ ap (any_flag fs) (sym (line_are first (last - first)))
-
-    pub line_none : last ≤ m → false ≡ any_flag fs (line_edges g p first (last - first) h k)
-    line_none a = looking_end s a ∙ ap (any_flag fs) (sym (line_are first (last - first)))
 
 -- the flag of one edge
 pub flag_at_lem : (fs : List Bool) (g : Grid3d) (q : Position) (m : ℕ) {c : ℕ} {o : Position} → o ≡ moved_to q q.component m → c ≡ index_of g o

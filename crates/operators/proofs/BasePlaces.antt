@@ -8,12 +8,11 @@ use native.Mathlib.Omega.{arith}
 use native.Mathlib.Decide.{ℕ_discrete}
 use borrow.Author.Tests.{eq-eqb, eqb-true, ne_eqb, le-ltb, lt-ltb, ltb-true}
 use lib.Dec.{eqb, ltb}
-use Rattle.numbers.proofs.Laws.{either_of}
+use Rattle.std.proofs.lemmas.Bool.{and_parts, or_cases}
 use Rattle.operators.specs.Pattern.{across, Name, same, near, up, down}
 use Rattle.operators.specs.Bits.{bit_at, mix_of, single}
 use Rattle.operators.specs.Numbered.{name_no}
 use Rattle.operators.specs.Base.{live_at, follows, base_of, place_of, base_word, OnlyAfter, OnlyBefore}
-use Rattle.operators.proofs.RelationLaws.{and_both}
 use Rattle.operators.proofs.WordLaws.{bit_none, bit_mix, bit_unit, mix_left}
 use Rattle.operators.proofs.WordPlaces.{same_places}
 use Rattle.operators.proofs.BaseLaws.{bit_base}
@@ -23,15 +22,15 @@ use Rattle.operators.proofs.BaseLaws.{bit_base}
 -- what follows is one further, or the first after the last
 follows_by : (n : ℕ) (bloch : Bool) (i j : ℕ) → follows n bloch i j ≡ true → ((j ≡ i + 1) × (i + 1 < n)) ⊎ ((i + 1 ≡ n) × (j ≡ 0))
 unfolding follows
-follows_by n bloch i j h = go (either_of (eqb j (i + 1) && ltb (i + 1) n) ((bloch && eqb (i + 1) n) && eqb j 0) h)
+follows_by n bloch i j h = go (or_cases (eqb j (i + 1) && ltb (i + 1) n) ((bloch && eqb (i + 1) n) && eqb j 0) h)
   where
     go : ((eqb j (i + 1) && ltb (i + 1) n) ≡ true) ⊎ (((bloch && eqb (i + 1) n) && eqb j 0) ≡ true) → ((j ≡ i + 1) × (i + 1 < n)) ⊎ ((i + 1 ≡ n) × (j ≡ 0))
     go (inl e) =
-        let b = and_both (eqb j (i + 1)) (ltb (i + 1) n) e in
+        let b = and_parts (eqb j (i + 1)) (ltb (i + 1) n) e in
         inl (eqb-true j (i + 1) b.0, ltb-true (i + 1) n b.1)
     go (inr e) =
-        let b = and_both (bloch && eqb (i + 1) n) (eqb j 0) e in
-        inr (eqb-true (i + 1) n (and_both bloch (eqb (i + 1) n) b.0).1, eqb-true j 0 b.1)
+        let b = and_parts (bloch && eqb (i + 1) n) (eqb j 0) e in
+        inr (eqb-true (i + 1) n (and_parts bloch (eqb (i + 1) n) b.0).1, eqb-true j 0 b.1)
 
 pub after_near : (n i : ℕ) → i + 1 < n → OnlyAfter n i (i + 1)
 after_near n i h = record { only = λ bloch j f. go j (follows_by n bloch i j f) }
@@ -66,18 +65,18 @@ before_first n i r h o = record { only = λ bloch j f. go j (follows_by n bloch 
 -- the place itself, the one after it or the one before it
 beside : (n : ℕ) (bloch : Bool) (w : Name) (i j : ℕ) → base_of n bloch w i j ≡ true → (eqb i j ≡ true) ⊎ ((follows n bloch i j ≡ true) ⊎ (follows n bloch j i ≡ true))
 unfolding base_of
-beside n bloch (same r) i j h = inl (and_both (live_at bloch r i) (eqb i j) h).1
-beside n bloch (near r) i j h = go (either_of (eqb i j) (follows n bloch i j || follows n bloch j i) (and_both (live_at bloch r i && live_at bloch r j) (eqb i j || (follows n bloch i j || follows n bloch j i)) h).1)
+beside n bloch (same r) i j h = inl (and_parts (live_at bloch r i) (eqb i j) h).1
+beside n bloch (near r) i j h = go (or_cases (eqb i j) (follows n bloch i j || follows n bloch j i) (and_parts (live_at bloch r i && live_at bloch r j) (eqb i j || (follows n bloch i j || follows n bloch j i)) h).1)
   where
     go : (eqb i j ≡ true) ⊎ ((follows n bloch i j || follows n bloch j i) ≡ true) → (eqb i j ≡ true) ⊎ ((follows n bloch i j ≡ true) ⊎ (follows n bloch j i ≡ true))
     go (inl e) = inl e
-    go (inr e) = inr (either_of (follows n bloch i j) (follows n bloch j i) e)
-beside n bloch up i j h = go (either_of (eqb i j) (follows n bloch i j) (and_both (live_at bloch across j) (eqb i j || follows n bloch i j) h).1)
+    go (inr e) = inr (or_cases (follows n bloch i j) (follows n bloch j i) e)
+beside n bloch up i j h = go (or_cases (eqb i j) (follows n bloch i j) (and_parts (live_at bloch across j) (eqb i j || follows n bloch i j) h).1)
   where
     go : (eqb i j ≡ true) ⊎ (follows n bloch i j ≡ true) → (eqb i j ≡ true) ⊎ ((follows n bloch i j ≡ true) ⊎ (follows n bloch j i ≡ true))
     go (inl e) = inl e
     go (inr e) = inr (inl e)
-beside n bloch down i j h = go (either_of (eqb i j) (follows n bloch j i) (and_both (live_at bloch across i) (eqb i j || follows n bloch j i) h).1)
+beside n bloch down i j h = go (or_cases (eqb i j) (follows n bloch j i) (and_parts (live_at bloch across i) (eqb i j || follows n bloch j i) h).1)
   where
     go : (eqb i j ≡ true) ⊎ (follows n bloch j i ≡ true) → (eqb i j ≡ true) ⊎ ((follows n bloch i j ≡ true) ⊎ (follows n bloch j i ≡ true))
     go (inl e) = inl e
@@ -123,7 +122,7 @@ module _ (n : ℕ) (bloch : Bool) (w i : ℕ) where
   -- its places are among the three
   found : {a c : ℕ} → OnlyAfter n i a → OnlyBefore n i c → (k : ℕ) → place_of n bloch w i k ≡ true → (k ≡ i) ⊎ ((k ≡ a) ⊎ (k ≡ c))
   unfolding place_of
-  found {a} {c} after before k e = go (beside n bloch (name_no w) i k (and_both (ltb k n) (base_of n bloch (name_no w) i k) e).1)
+  found {a} {c} after before k e = go (beside n bloch (name_no w) i k (and_parts (ltb k n) (base_of n bloch (name_no w) i k) e).1)
     where
       go : (eqb i k ≡ true) ⊎ ((follows n bloch i k ≡ true) ⊎ (follows n bloch k i ≡ true)) → (k ≡ i) ⊎ ((k ≡ a) ⊎ (k ≡ c))
       go (inl o) = inl (sym (eqb-true i k o))

@@ -97,9 +97,6 @@ unfolding line
 line_none base zero i = refl
 line_none base (suc n) i = rw (bit_none i) (line_none base n (suc i))
 
-pub listed_none : {xs : List ℕ} {at : ℕ} {columns : List ℕ} → columns ≡ [] → Listed xs at columns xs at
-listed_none {xs} {at} e = rw e (record { list = refl; next = sym (add-zero at) })
-
 pub listed_append : {xs ys zs : List ℕ} {at r q : ℕ} (us vs : List ℕ) → Listed xs at us ys r → Listed ys r vs zs q → Listed xs at (us ++ vs) zs q
 listed_append {xs} {ys} {zs} {at} {r} {q} us vs p o =
     record {

@@ -9,13 +9,12 @@ use native.Mathlib.Omega.{arith}
 use native.Mathlib.Nat.{zero-mul, one-mul}
 use borrow.Author.Tests.{eq-eqb, ne_eqb}
 use lib.Dec.{eqb, lit<}
+use Rattle.std.proofs.lemmas.Bool.{and_from, and_parts, or_cases, or_left, or_right}
 use Rattle.operators.specs.Relation.{Spot, Within, Times}
 use Rattle.operators.specs.Pattern.{name_of, name_at, Ladder, rel, box, Pattern, Row, Sound, Live}
 use Rattle.operators.specs.Bits.{bit_at}
 use Rattle.operators.specs.Columns.{block, row, picked, number}
 use Rattle.operators.specs.declared.columns.Picks.{Picks}
-use Rattle.operators.proofs.RelationLaws.{and_both, both_and}
-use Rattle.numbers.proofs.Laws.{either_of, or_left, or_right}
 use Rattle.operators.proofs.PatternTheorem.{row_live}
 use Rattle.numbers.proofs.MemberLaws.{Span, in_append, in_left, in_right, unique}
 use Rattle.numbers.specs.Lists.{In}
@@ -50,25 +49,25 @@ unfolding picked Three
 picked_three s k j i h =
     ⊎_elim
     (λ e.
-    let t = and_both _ _ e in
-    let u = and_both _ _ t.0 in
+    let t = and_parts _ _ e in
+    let u = and_parts _ _ t.0 in
     inl (t.1, u.1, u.0))
     (λ e.
-    let t = and_both _ _ e in
+    let t = and_parts _ _ e in
     inr
     (⊎_elim
-    (λ f. let u = and_both _ _ f in inl (t.1, u.1, u.0))
-    (λ f. let u = and_both _ _ f in inr (t.1, u.1, u.0))
-    (either_of _ _ t.0)))
-    (either_of _ _ h)
+    (λ f. let u = and_parts _ _ f in inl (t.1, u.1, u.0))
+    (λ f. let u = and_parts _ _ f in inr (t.1, u.1, u.0))
+    (or_cases _ _ t.0)))
+    (or_cases _ _ h)
 
 three_picked : (s : Picks) (k j i : ℕ) → Three s k j i → picked s k j i ≡ true
 unfolding picked Three
-three_picked s k j i (inl t) = or_left _ (both_and (both_and t.2 t.1) t.0)
+three_picked s k j i (inl t) = or_left _ _ (and_from _ _ (and_from _ _ t.2 t.1) t.0)
 three_picked s k j i (inr (inl t)) =
-    or_right ((bit_at s.sz k && bit_at s.sy j) && bit_at s.tx i) (both_and (or_left (bit_at s.tz k && bit_at s.sy j) (both_and t.2 t.1)) t.0)
+    or_right ((bit_at s.sz k && bit_at s.sy j) && bit_at s.tx i) _ (and_from _ _ (or_left _ (bit_at s.tz k && bit_at s.sy j) (and_from _ _ t.2 t.1)) t.0)
 three_picked s k j i (inr (inr t)) =
-    or_right ((bit_at s.sz k && bit_at s.sy j) && bit_at s.tx i) (both_and (or_right (bit_at s.sz k && bit_at s.ty j) (both_and t.2 t.1)) t.0)
+    or_right ((bit_at s.sz k && bit_at s.sy j) && bit_at s.tx i) _ (and_from _ _ (or_right (bit_at s.sz k && bit_at s.ty j) _ (and_from _ _ t.2 t.1)) t.0)
 
 module _ (M : Ladder) (L a b : ℕ) (p : Spot) (s : Picks) (ok : Picked M L a b p s) (q : Spot) (inside : Within (box M L) q) where
   pub three_pattern : Three s q.z q.y q.x → Pattern M L a b p q

@@ -3,12 +3,13 @@
 use Prim.Native.Nat.{ℕ, zero, suc, ◌-◌, ◌<◌}
 use mathlib.Core.Path.{◌≡◌, refl, sym, ap, ◌∙◌, subst}
 use mathlib.Core.Logic.{◌⊎◌, ◌↔◌}
-use mathlib.Core.Bool.{Bool, true, false, not, ◌&&◌, ◌||◌, false≢true}
+use mathlib.Core.Bool.{Bool, true, false, not, ◌&&◌, ◌||◌}
 use mathlib.Core.List.{List}
 use native.Mathlib.Omega.{arith}
 use borrow.Author.Tests.{ne_eqb, eqb-false, lt-ltb, ltb-true}
 use lib.Dec.{eqb, ltb, lit<}
 use lib.ListN.{length}
+use Rattle.std.proofs.lemmas.Bool.{and_from, and_parts, not-true}
 use Rattle.numbers.specs.declared.C64.{C64}
 use Rattle.lattice.specs.declared.grid.Grid3d.{Grid3d}
 use Rattle.lattice.specs.declared.grid.Position.{Position}
@@ -41,7 +42,6 @@ use Rattle.weights.proofs.TakenLaws.{taker_free, in_free, base_at, axis_places_a
 use Rattle.lattice.proofs.ColumnLaws.{index_one}
 use Rattle.numbers.proofs.Tutorial.{turned_columns_lem}
 use Rattle.operators.proofs.ReachLaws.{Taken, value_taken}
-use Rattle.operators.proofs.RelationLaws.{and_both, both_and}
 use Rattle.operators.proofs.Sound.{base_same, base_near, base_live}
 
 -- ---- which places are fixed
@@ -56,12 +56,8 @@ live_barred l a across m = rw walled_is (go (is_wall (edges_of l a)) (eqb m 0))
     go true z = refl
     go false z = refl
 
-not_false : (b : Bool) → not b ≡ true → b ≡ false
-not_false true h = absurd (false≢true h)
-not_false false h = refl
-
 pub live_free : (l : FullLattice) (a : ℕ) (r : Role) (m : ℕ) → live_at (is_bloch l a) r m ≡ true → barred (walled l a (is_own r)) m ≡ false
-live_free l a r m h = not_false (barred (walled l a (is_own r)) m) (sym (live_barred l a r m) ∙ h)
+live_free l a r m h = not-true (barred (walled l a (is_own r)) m) (sym (live_barred l a r m) ∙ h)
 
 pub free_live : (l : FullLattice) (a : ℕ) (r : Role) (m : ℕ) → barred (walled l a (is_own r)) m ≡ false → live_at (is_bloch l a) r m ≡ true
 free_live l a r m h = live_barred l a r m ∙ ap not h
@@ -190,27 +186,27 @@ module _ (l : FullLattice) (limits : Limits l.grid) (L a : ℕ) (h : a < 3) (r :
   pub forward_of : (k i : ℕ) → (ladder_of l).forward L a r k i ≡ true → (k < cells_at l a L) × In i (free_places (two_at l L) a (is_own r) k)
   unfolding forward_rel
   forward_of k i e =
-      let b = and_both (ltb k (cells_at l a L)) (contains i (free_places (two_at l L) a (is_own r) k)) e in
+      let b = and_parts (ltb k (cells_at l a L)) (contains i (free_places (two_at l L) a (is_own r) k)) e in
       (ltb-true k (cells_at l a L) b.0, contains_in i (free_places (two_at l L) a (is_own r) k) b.1)
 
   pub of_forward : (k i : ℕ) → k < cells_at l a L → In i (free_places (two_at l L) a (is_own r) k) → (ladder_of l).forward L a r k i ≡ true
   unfolding forward_rel
-  of_forward k i b j = both_and (lt-ltb k (cells_at l a L) b) (in_contains i (free_places (two_at l L) a (is_own r) k) j)
+  of_forward k i b j = and_from _ _ (lt-ltb k (cells_at l a L) b) (in_contains i (free_places (two_at l L) a (is_own r) k) j)
 
   weight_starts : (k i : ℕ) → (ladder_of l).forward L a r k i ≡ true → live_on l L a r k ≡ true
   weight_starts k i e =
       let b = forward_of k i e in
-      both_and (lt-ltb k (cells_at l a L) b.0) (free_live l a r k (rw base_at at (taker_free (two_at l L) a (is_own r) k i b.1)))
+      and_from _ _ (lt-ltb k (cells_at l a L) b.0) (free_live l a r k (rw base_at at (taker_free (two_at l L) a (is_own r) k i b.1)))
 
   weight_ends : (k i : ℕ) → (ladder_of l).forward L a r k i ≡ true → live_on l (suc L) a r i ≡ true
   weight_ends k i e =
       let j = (forward_of k i e).1 in
-      both_and (lt-ltb i (cells_at l a (suc L)) (weight_low l limits L a h (is_own r) k i j))
+      and_from _ _ (lt-ltb i (cells_at l a (suc L)) (weight_low l limits L a h (is_own r) k i j))
       (free_live l a r i (rw base_at at (weight_free l limits L a h (is_own r) k i j).free))
 
   weight_reaches : (i : ℕ) → live_on l (suc L) a r i ≡ true → (k : ℕ) × (k < cells_at l a L) × ((ladder_of l).forward L a r k i ≡ true)
   weight_reaches i e =
-      let b = and_both (ltb i (cells_at l a (suc L))) (live_at (is_bloch l a) r i) e in
+      let b = and_parts (ltb i (cells_at l a (suc L))) (live_at (is_bloch l a) r i) e in
       let c : coarse_cells (two_at l L) a ≡ cells_at l a (suc L) = coarse_cells_lem l L a h in
       let f : fine_cells (two_at l L) a ≡ cells_at l a L = fine_cells_lem l L a h in
       let t = free_takes l limits L a (is_own r) i (omega (arith, ltb-true i (cells_at l a (suc L)) b.0)) (live_free l a r i b.1) in

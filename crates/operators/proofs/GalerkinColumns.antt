@@ -8,6 +8,7 @@ use mathlib.Core.List.{List, [], ◌∷◌}
 use native.Mathlib.Omega.{arith}
 use borrow.Author.Tests.{lt-ltb}
 use lib.Dec.{eqb, ltb}
+use Rattle.std.proofs.lemmas.Bool.{and_from, and_parts, or_parts}
 use Rattle.numbers.specs.declared.C64.{C64}
 use Rattle.lattice.specs.declared.grid.Position.{Position}
 use Rattle.lattice.specs.Grid.{index_of, at_of, unknowns_of, Limits, Inside}
@@ -35,7 +36,6 @@ use Rattle.operators.proofs.ForwardPattern.{axis_no, three, row_three, rel_three
 use Rattle.operators.proofs.GalerkinPattern.{edge_of, position_of, inside, row_spans, galerkin_low, galerkin_in_lem}
 use Rattle.operators.proofs.PatternTheorem.{row_fixed}
 use Rattle.operators.proofs.StencilRow.{placed}
-use Rattle.operators.proofs.RelationLaws.{and_both, both_and, neither}
 use Rattle.operators.proofs.TableLevels.{right_picked}
 
 -- ---- an edge that is not fixed is live on every axis
@@ -52,19 +52,19 @@ module _ (l : FullLattice) (p : Position) where
   own_fixed d m = ap (λ (b : Bool). barred (walled l d b) m) (own_role (eqb d p.component) ∙ sym (is_along_is p d))
 
   axis_live : (L d m : ℕ) → m < cells_at l d L → fixed_on d m ≡ false → live_on l L d (role p.component d) m ≡ true
-  axis_live L d m h e = both_and (lt-ltb m (cells_at l d L) h) (free_live l d (role p.component d) m (own_fixed d m ∙ e))
+  axis_live L d m h e = and_from _ _ (lt-ltb m (cells_at l d L) h) (free_live l d (role p.component d) m (own_fixed d m ∙ e))
 
   axis_free : (L d m : ℕ) → live_on l L d (role p.component d) m ≡ true → fixed_on d m ≡ false
   axis_free L d m h =
       let r = role p.component d in
-      sym (own_fixed d m) ∙ live_free l d r m (and_both (ltb m (cells_at l d L)) (live_at (is_bloch l d) r m) h).1
+      sym (own_fixed d m) ∙ live_free l d r m (and_parts (ltb m (cells_at l d L)) (live_at (is_bloch l d) r m) h).1
 
   module _ (limits : Limits l.grid) (L : ℕ) (h : Inside (grid_at l L) p) where
     free_edge : fixed_at l p ≡ false → Live (three (ladder_of l)) (sound_of l limits) L p.component (spot_of p)
     free_edge e =
         let w = within l L p h in
-        let a = neither (fixed_on 0 p.i) (fixed_on 1 p.j || fixed_on 2 p.k) (sym fixed_is ∙ e) in
-        let b = neither (fixed_on 1 p.j) (fixed_on 2 p.k) a.1 in
+        let a = or_parts (fixed_on 0 p.i) (fixed_on 1 p.j || fixed_on 2 p.k) (sym fixed_is ∙ e) in
+        let b = or_parts (fixed_on 1 p.j) (fixed_on 2 p.k) a.1 in
         record {
           x = sound_live l limits L 0 (role p.component 0) p.i ∙ axis_live L 0 p.i w.x a.0;
           y = sound_live l limits L 1 (role p.component 1) p.j ∙ axis_live L 1 p.j w.y b.0;

@@ -13,6 +13,7 @@ use lib.Dec.{eqb}
 use lib.ListN.{length, get_or, replicate, length-replicate}
 use lib.Seq.{ext_get_or}
 use lib.Ieee.{Float}
+use Rattle.std.proofs.lemmas.List.{nil_from_length}
 use Rattle.numbers.specs.declared.C64.{C64}
 use Rattle.numbers.specs.Complex.{zero_f, one_number, zero_number, no_number}
 use Rattle.numbers.specs.Places.{places, number_at, set_number}
@@ -81,10 +82,6 @@ module _ (A P R : ℕ → List Term) (c : ℕ) where
         at_first_is one_number,
       )
       refl
-
-empty_is : {A : Type 0} (xs : List A) → length xs ≡ 0 → xs ≡ []
-empty_is [] h = refl
-empty_is (x ∷ xs) h = absurd (omega arith)
 
 -- ---- a row's columns in a list
 
@@ -247,7 +244,7 @@ module _ {A P R : ℕ → List Term} {c : ℕ} {cs : List ℕ} (starts : List �
   row_sums = go (ℕ_discrete (get_or starts (s + c) 0) (get_or starts (s + c + 1) 0))
     where
       go : Dec (get_or starts (s + c) 0 ≡ get_or starts (s + c + 1) 0) → sums_at cs zs k n ≡ numbers_of (galerkin_row A P R c)
-      go (yes d) = alone_sums (empty_is (R c) (omega arith)) d
+      go (yes d) = alone_sums (nil_from_length (R c) (omega arith)) d
       go (no d) =
           let w : zs ≡ ys = rw (ne_eqb (get_or starts (s + c) 0) (get_or starts (s + c + 1) 0) d) at one in
           rw w (met_sums (omega arith))

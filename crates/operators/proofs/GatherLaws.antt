@@ -204,6 +204,20 @@ stored_below {starts} {s} {cs} {xs} {k} {r} {m} u =
           rw i at (u.columns_low (get_or starts (s + r) 0 + q) (omega (arith, u.rise)));
     }
 
+-- the same from where it starts up to where it ends
+pub row_cut : {starts : List ℕ} {s : ℕ} {cs : List ℕ} {xs : List Float} {k r m first last : ℕ} → Bounds starts s cs xs k r m
+    → first ≡ k + get_or starts (s + r) 0 → last ≡ k + get_or starts (s + r + 1) 0 → ColumnsBelow cs first (last - first) m
+row_cut {starts} {s} {cs} {xs} {k} {r} {m} {first} {last} u a b =
+    let e : last - first ≡ get_or starts (s + r + 1) 0 - get_or starts (s + r) 0 = omega (arith, a, b) in
+    rw (e, a) (stored_below u)
+
+pub row_terms : (starts : List ℕ) (s : ℕ) (cs : List ℕ) (xs : List Float) (k r : ℕ) {first last : ℕ}
+    → first ≡ k + get_or starts (s + r) 0 → last ≡ k + get_or starts (s + r + 1) 0
+    → stored_row starts s cs xs k r ≡ terms_in cs xs first (last - first)
+row_terms starts s cs xs k r {first} {last} a b =
+    let e : last - first ≡ get_or starts (s + r + 1) 0 - get_or starts (s + r) 0 = omega (arith, a, b) in
+    rw (e, a) (stored_row_is starts s cs xs k r)
+
 -- the row of the term at place q
 pub row_there : {p : Part} {starts cs : List ℕ} {xs : List Float} {ds : List ℕ} {k count q : ℕ} → HasRows p starts cs xs ds k count
     → k ≤ q → q < k + count → HasRow p starts cs xs (get_or ds q 0)

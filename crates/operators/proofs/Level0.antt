@@ -8,12 +8,12 @@ use native.Mathlib.Omega.{arith}
 use native.Mathlib.Decide.{ℕ_discrete}
 use borrow.Author.Tests.{eq-eqb, ne_eqb, eqb-true, eqb-false, ltb-true}
 use lib.Dec.{eqb, ltb, lit<}
+use Rattle.std.proofs.lemmas.Bool.{and_from, and_parts, or_cases, or_left, or_right}
 use Rattle.operators.specs.Relation.{Rel, after, Spot, Within, Times, after_cube, Then}
 use Rattle.operators.specs.Pattern.{Role, along, across, role_of, name_of, name_at, rel, Pattern, SpotEdge, spot_edge}
 use Rattle.operators.specs.Base.{live_at, follows, base_of}
 use Rattle.operators.specs.Relations0.{ahead, back, curl_h, curl_e, grad, div, cells, curl_h_cube, curl_e_cube, grad_cube, div_cube, Free, ByFace, Stencil}
-use Rattle.operators.proofs.RelationLaws.{and_both, both_and, after_by, by_after, product}
-use Rattle.numbers.proofs.Laws.{either_of, or_left, or_right}
+use Rattle.operators.proofs.RelationLaws.{after_by, by_after, product}
 use Rattle.operators.proofs.Sound.{ladder}
 
 -- Bools
@@ -26,20 +26,20 @@ unfolding follows
 next_of n bloch i j h =
     record {
       how = ⊎_elim
-          (λ e. let t = and_both (eqb j (i + 1)) (ltb (i + 1) n) e in inl (eqb-true j (i + 1) t.0, ltb-true (i + 1) n t.1))
+          (λ e. let t = and_parts (eqb j (i + 1)) (ltb (i + 1) n) e in inl (eqb-true j (i + 1) t.0, ltb-true (i + 1) n t.1))
           (λ e.
-          let t = and_both (bloch && eqb (i + 1) n) (eqb j 0) e in
-          let u = and_both bloch (eqb (i + 1) n) t.0 in
+          let t = and_parts (bloch && eqb (i + 1) n) (eqb j 0) e in
+          let u = and_parts bloch (eqb (i + 1) n) t.0 in
           inr (u.0, eqb-true (i + 1) n u.1, eqb-true j 0 t.1))
-          (either_of _ _ h);
+          (or_cases _ _ h);
     }
 
 -- a next place is live, and both ways there is one next place at most
 next_live : (n : ℕ) (bloch : Bool) (i j : ℕ) → follows n bloch i j ≡ true → live_at bloch across j ≡ true
 unfolding live_at
 next_live n bloch i j h = ⊎_elim
-    (λ t. or_right bloch (rw (ne_eqb j 0 (λ e. omega (arith, t.0)))))
-    (λ t. or_left (not (eqb j 0)) t.0)
+    (λ t. or_right bloch _ (rw (ne_eqb j 0 (λ e. omega (arith, t.0)))))
+    (λ t. or_left _ (not (eqb j 0)) t.0)
     (next_of n bloch i j h).how
 
 next_one : (n : ℕ) (bloch : Bool) (m i j : ℕ) → follows n bloch m i ≡ true → follows n bloch m j ≡ true → i ≡ j
@@ -61,43 +61,43 @@ near_of n bloch i j = eqb i j || (follows n bloch i j || follows n bloch j i)
 module _ (n : ℕ) (bloch : Bool) (i j : ℕ) where
   near_same : i ≡ j → near_of n bloch i j ≡ true
   unfolding near_of
-  near_same e = or_left (follows n bloch i j || follows n bloch j i) (eq-eqb i j e)
+  near_same e = or_left _ (follows n bloch i j || follows n bloch j i) (eq-eqb i j e)
 
   near_next : follows n bloch i j ≡ true → near_of n bloch i j ≡ true
   unfolding near_of
-  near_next e = or_right (eqb i j) (or_left (follows n bloch j i) e)
+  near_next e = or_right (eqb i j) _ (or_left _ (follows n bloch j i) e)
 
   near_back : follows n bloch j i ≡ true → near_of n bloch i j ≡ true
   unfolding near_of
-  near_back e = or_right (eqb i j) (or_right (follows n bloch i j) e)
+  near_back e = or_right (eqb i j) _ (or_right (follows n bloch i j) _ e)
 
   near_cases : near_of n bloch i j ≡ true → (i ≡ j) ⊎ ((follows n bloch i j ≡ true) ⊎ (follows n bloch j i ≡ true))
   unfolding near_of
-  near_cases h = ⊎_elim (λ e. inl (eqb-true i j e)) (λ e. inr (either_of _ _ e)) (either_of _ _ h)
+  near_cases h = ⊎_elim (λ e. inl (eqb-true i j e)) (λ e. inr (or_cases _ _ e)) (or_cases _ _ h)
 
   pub ahead_cases : ahead n bloch i j ≡ true → (i ≡ j) ⊎ (follows n bloch i j ≡ true)
   unfolding ahead
-  ahead_cases h = ⊎_elim (λ e. inl (eqb-true i j e)) (λ e. inr e) (either_of _ _ h)
+  ahead_cases h = ⊎_elim (λ e. inl (eqb-true i j e)) (λ e. inr e) (or_cases _ _ h)
 
   pub back_cases : back n bloch i j ≡ true → (i ≡ j) ⊎ (follows n bloch j i ≡ true)
   unfolding back
-  back_cases h = ⊎_elim (λ e. inl (eqb-true i j e)) (λ e. inr e) (either_of _ _ h)
+  back_cases h = ⊎_elim (λ e. inl (eqb-true i j e)) (λ e. inr e) (or_cases _ _ h)
 
   pub ahead_same : i ≡ j → ahead n bloch i j ≡ true
   unfolding ahead
-  ahead_same e = or_left (follows n bloch i j) (eq-eqb i j e)
+  ahead_same e = or_left _ (follows n bloch i j) (eq-eqb i j e)
 
   pub ahead_next : follows n bloch i j ≡ true → ahead n bloch i j ≡ true
   unfolding ahead
-  ahead_next e = or_right (eqb i j) e
+  ahead_next e = or_right (eqb i j) _ e
 
   pub back_same : i ≡ j → back n bloch i j ≡ true
   unfolding back
-  back_same e = or_left (follows n bloch j i) (eq-eqb i j e)
+  back_same e = or_left _ (follows n bloch j i) (eq-eqb i j e)
 
   pub back_next : follows n bloch j i ≡ true → back n bloch i j ≡ true
   unfolding back
-  back_next e = or_right (eqb i j) e
+  back_next e = or_right (eqb i j) _ e
 
 -- two shifts that undo each other come to near
 module _ (n : ℕ) (bloch : Bool) (i j k : ℕ) where
@@ -121,31 +121,31 @@ unfolding base_of ahead back near_of
 face_axis n bloch true true db i j p q li lj h = absurd (p refl refl)
 face_axis n bloch true false true i j p q li lj h =
     let t = after_by n eqb eqb i j h in
-    both_and li (eq-eqb i j (eqb-true i t.0 t.2 ∙ eqb-true t.0 j t.3))
+    and_from _ _ li (eq-eqb i j (eqb-true i t.0 t.2 ∙ eqb-true t.0 j t.3))
 face_axis n bloch true false false i j p q li lj h =
     let t = after_by n eqb (ahead n bloch) i j h in
-    both_and lj (rw (eqb-true i t.0 t.2) t.3)
+    and_from _ _ lj (rw (eqb-true i t.0 t.2) t.3)
 face_axis n bloch false true true i j p q li lj h = absurd (q refl refl)
 face_axis n bloch false true false i j p q li lj h =
     let t = after_by n eqb eqb i j h in
-    both_and li (eq-eqb i j (eqb-true i t.0 t.2 ∙ eqb-true t.0 j t.3))
+    and_from _ _ li (eq-eqb i j (eqb-true i t.0 t.2 ∙ eqb-true t.0 j t.3))
 face_axis n bloch false false true i j p q li lj h =
     let t = after_by n (back n bloch) eqb i j h in
     let e : t.0 ≡ j = eqb-true t.0 j t.3 in
     let g : back n bloch i j ≡ true = rw e at t.2 in
-    both_and li (g)
+    and_from _ _ li (g)
 face_axis n bloch false false false i j p q li lj h =
     let t = after_by n (back n bloch) (ahead n bloch) i j h in
-    both_and (both_and li lj) (back_ahead n bloch i j t.0 t.2 t.3)
+    and_from _ _ (and_from _ _ li lj) (back_ahead n bloch i j t.0 t.2 t.3)
 
 axis_face : (n : ℕ) (bloch da df : Bool) (i j : ℕ) → (da ≡ true → df ≡ true → ⊥) → i < n → j < n
     → base_of n bloch (name_of da da (not da && not df)) i j ≡ true → after n (curl_h n bloch da df) (curl_e n bloch df da) i j ≡ true
 unfolding base_of ahead back near_of
 axis_face n bloch true true i j p a b h = absurd (p refl refl)
-axis_face n bloch true false i j p a b h = by_after n eqb eqb i j i a (eq-eqb i i refl) (and_both (live_at bloch along i) (eqb i j) h).1
-axis_face n bloch false true i j p a b h = by_after n eqb eqb i j i a (eq-eqb i i refl) (and_both (live_at bloch across i) (eqb i j) h).1
+axis_face n bloch true false i j p a b h = by_after n eqb eqb i j i a (eq-eqb i i refl) (and_parts (live_at bloch along i) (eqb i j) h).1
+axis_face n bloch false true i j p a b h = by_after n eqb eqb i j i a (eq-eqb i i refl) (and_parts (live_at bloch across i) (eqb i j) h).1
 axis_face n bloch false false i j p a b h =
-    let g : near_of n bloch i j ≡ true = (and_both (live_at bloch across i && live_at bloch across j) (eqb i j || (follows n bloch i j || follows n bloch j i)) h).1 in
+    let g : near_of n bloch i j ≡ true = (and_parts (live_at bloch across i && live_at bloch across j) (eqb i j || (follows n bloch i j || follows n bloch j i)) h).1 in
     ⊎_elim
     (λ e. by_after n (back n bloch) (ahead n bloch) i j i a (back_same n bloch i i refl) (ahead_same n bloch i j e))
     (λ f. ⊎_elim
@@ -162,48 +162,48 @@ unfolding base_of grad ahead back near_of
 node_axis n bloch true true i j li lj h =
     let t = after_by n (grad n bloch true) (back n bloch) i j h in
     let k = t.0 in
-    both_and (both_and li lj) (ahead_back n bloch i j k (and_both (live_at bloch across k) (ahead n bloch i k) t.2).1 t.3)
+    and_from _ _ (and_from _ _ li lj) (ahead_back n bloch i j k (and_parts (live_at bloch across k) (ahead n bloch i k) t.2).1 t.3)
 node_axis n bloch true false i j li lj h =
     let t = after_by n (grad n bloch true) eqb i j h in
     let k = t.0 in
     let e : k ≡ j = eqb-true k j t.3 in
-    let g : ahead n bloch i j ≡ true = rw e at (and_both (live_at bloch across k) (ahead n bloch i k) t.2).1 in
-    both_and lj (g)
+    let g : ahead n bloch i j ≡ true = rw e at (and_parts (live_at bloch across k) (ahead n bloch i k) t.2).1 in
+    and_from _ _ lj (g)
 node_axis n bloch false true i j li lj h =
     let t = after_by n (grad n bloch false) (back n bloch) i j h in
     let k = t.0 in
-    let e : i ≡ k = eqb-true i k (and_both (live_at bloch across k) (eqb i k) t.2).1 in
-    both_and li (rw e t.3)
+    let e : i ≡ k = eqb-true i k (and_parts (live_at bloch across k) (eqb i k) t.2).1 in
+    and_from _ _ li (rw e t.3)
 node_axis n bloch false false i j li lj h =
     let t = after_by n (grad n bloch false) eqb i j h in
     let k = t.0 in
-    let e : i ≡ k = eqb-true i k (and_both (live_at bloch across k) (eqb i k) t.2).1 in
-    both_and li (eq-eqb i j (e ∙ eqb-true k j t.3))
+    let e : i ≡ k = eqb-true i k (and_parts (live_at bloch across k) (eqb i k) t.2).1 in
+    and_from _ _ li (eq-eqb i j (e ∙ eqb-true k j t.3))
 
 axis_node : (n : ℕ) (bloch da db : Bool) (i j : ℕ) → (da ≡ true → db ≡ true → ⊥) → i < n → j < n
     → base_of n bloch (name_of da db false) i j ≡ true → after n (grad n bloch da) (div n bloch db) i j ≡ true
 unfolding base_of grad ahead back near_of
 axis_node n bloch true true i j p a b h = absurd (p refl refl)
 axis_node n bloch true false i j p a b h =
-    let t = and_both (live_at bloch across j) (eqb i j || follows n bloch i j) h in
-    by_after n (grad n bloch true) eqb i j j b (both_and t.0 t.1) (eq-eqb j j refl)
+    let t = and_parts (live_at bloch across j) (eqb i j || follows n bloch i j) h in
+    by_after n (grad n bloch true) eqb i j j b (and_from _ _ t.0 t.1) (eq-eqb j j refl)
 axis_node n bloch false true i j p a b h =
-    let t = and_both (live_at bloch across i) (eqb i j || follows n bloch j i) h in
-    by_after n (grad n bloch false) (back n bloch) i j i a (both_and t.0 (eq-eqb i i refl)) t.1
+    let t = and_parts (live_at bloch across i) (eqb i j || follows n bloch j i) h in
+    by_after n (grad n bloch false) (back n bloch) i j i a (and_from _ _ t.0 (eq-eqb i i refl)) t.1
 axis_node n bloch false false i j p a b h =
-    let t = and_both (live_at bloch across i) (eqb i j) h in
-    by_after n (grad n bloch false) eqb i j i a (both_and t.0 (eq-eqb i i refl)) t.1
+    let t = and_parts (live_at bloch across i) (eqb i j) h in
+    by_after n (grad n bloch false) eqb i j i a (and_from _ _ t.0 (eq-eqb i i refl)) t.1
 
 axis_node_own : (n : ℕ) (bloch da : Bool) (i j : ℕ) → (da ≡ true → i ≡ j → ⊥) → i < n → j < n
     → base_of n bloch (name_of da da da) i j ≡ true → after n (grad n bloch da) (div n bloch da) i j ≡ true
 unfolding base_of grad ahead back near_of
 axis_node_own n bloch true i j p a b h =
-    let g : near_of n bloch i j ≡ true = (and_both (live_at bloch along i && live_at bloch along j) (eqb i j || (follows n bloch i j || follows n bloch j i)) h).1 in
+    let g : near_of n bloch i j ≡ true = (and_parts (live_at bloch along i && live_at bloch along j) (eqb i j || (follows n bloch i j || follows n bloch j i)) h).1 in
     ⊎_elim
     (λ e. absurd (p refl e))
     (λ f. ⊎_elim
-    (λ e. by_after n (grad n bloch true) (back n bloch) i j j b (both_and (next_live n bloch i j e) (ahead_next n bloch i j e)) (back_same n bloch j j refl))
-    (λ e. by_after n (grad n bloch true) (back n bloch) i j i a (both_and (next_live n bloch j i e) (ahead_same n bloch i i refl)) (back_next n bloch i j e))
+    (λ e. by_after n (grad n bloch true) (back n bloch) i j j b (and_from _ _ (next_live n bloch i j e) (ahead_next n bloch i j e)) (back_same n bloch j j refl))
+    (λ e. by_after n (grad n bloch true) (back n bloch) i j i a (and_from _ _ (next_live n bloch j i e) (ahead_same n bloch i i refl)) (back_next n bloch i j e))
     f)
     (near_cases n bloch i j g)
 axis_node_own n bloch false i j p a b h = axis_node n bloch false false i j (λ e f. false≢true e) a b h
@@ -257,19 +257,19 @@ live_along bloch i = refl
 row_free : (n : ℕ) (bloch da db s : Bool) (i j : ℕ) → base_of n bloch (name_of da db s) i j ≡ true → live_at bloch (role_of da) i ≡ true
 unfolding base_of
 row_free n bloch true db s i j h = live_along bloch i
-row_free n bloch false true s i j h = (and_both (live_at bloch across i) (eqb i j || follows n bloch j i) h).0
+row_free n bloch false true s i j h = (and_parts (live_at bloch across i) (eqb i j || follows n bloch j i) h).0
 row_free n bloch false false true i j h =
-    (and_both (live_at bloch across i) (live_at bloch across j) (and_both (live_at bloch across i && live_at bloch across j) (eqb i j || (follows n bloch i j || follows n bloch j i)) h).0).0
-row_free n bloch false false false i j h = (and_both (live_at bloch across i) (eqb i j) h).0
+    (and_parts (live_at bloch across i) (live_at bloch across j) (and_parts (live_at bloch across i && live_at bloch across j) (eqb i j || (follows n bloch i j || follows n bloch j i)) h).0).0
+row_free n bloch false false false i j h = (and_parts (live_at bloch across i) (eqb i j) h).0
 
 column_free : (n : ℕ) (bloch da db s : Bool) (i j : ℕ) → base_of n bloch (name_of da db s) i j ≡ true → live_at bloch (role_of db) j ≡ true
 unfolding base_of
 column_free n bloch da true s i j h = live_along bloch j
-column_free n bloch true false s i j h = (and_both (live_at bloch across j) (eqb i j || follows n bloch i j) h).0
+column_free n bloch true false s i j h = (and_parts (live_at bloch across j) (eqb i j || follows n bloch i j) h).0
 column_free n bloch false false true i j h =
-    (and_both (live_at bloch across i) (live_at bloch across j) (and_both (live_at bloch across i && live_at bloch across j) (eqb i j || (follows n bloch i j || follows n bloch j i)) h).0).1
+    (and_parts (live_at bloch across i) (live_at bloch across j) (and_parts (live_at bloch across i && live_at bloch across j) (eqb i j || (follows n bloch i j || follows n bloch j i)) h).0).1
 column_free n bloch false false false i j h =
-    let t = and_both (live_at bloch across i) (eqb i j) h in
+    let t = and_parts (live_at bloch across i) (eqb i j) h in
     rw (eqb-true i j t.1) at t.0
 
 module _ (n : ℕ → ℕ → ℕ) (bloch : ℕ → Bool) (weights : ℕ → ℕ → Role → Rel) (a b : ℕ) (p q : Spot)
@@ -368,7 +368,7 @@ module _ (n : ℕ → ℕ → ℕ) (bloch : ℕ → Bool) (weights : ℕ → ℕ
 same_place : (n : ℕ) (bloch da : Bool) (i j : ℕ) → da ≡ false → base_of n bloch (name_of da da da) i j ≡ true → i ≡ j
 unfolding base_of
 same_place n bloch true i j e h = absurd (false≢true (sym e))
-same_place n bloch false i j e h = eqb-true i j (and_both (live_at bloch across i) (eqb i j) h).1
+same_place n bloch false i j e h = eqb-true i j (and_parts (live_at bloch across i) (eqb i j) h).1
 
 pub spot_path : (a : ℕ) (p q : Spot) → p.x ≡ q.x → p.y ≡ q.y → p.z ≡ q.z → spot_edge a p ≡ spot_edge a q
 spot_path a p q x y z = λ i. record { comp = a; at = record { x = x i; y = y i; z = z i } }

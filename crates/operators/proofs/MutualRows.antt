@@ -7,6 +7,7 @@ use mathlib.Core.Logic.{inl, inr, ⊎_elim}
 use mathlib.Core.Bool.{Bool, true, false, ◌&&◌, ◌||◌}
 use mathlib.Core.List.{List}
 use lib.Dec.{eqb}
+use Rattle.std.proofs.lemmas.Bool.{and_from, and_parts}
 use Rattle.numbers.specs.declared.C64.{C64}
 use Rattle.numbers.specs.Lists.{In}
 use Rattle.numbers.specs.Terms.{columns_of}
@@ -22,7 +23,6 @@ use Rattle.operators.specs.Base.{live_at, follows}
 use Rattle.operators.specs.Relations0.{ahead, back, curl_h, curl_e, grad, div, cells, grad_cube, div_cube, ByFace, Stencil}
 use Rattle.operators.specs.Levels.{is_bloch, spot_of}
 use Rattle.operators.specs.Stencil.{stencil_row, stencil_reads}
-use Rattle.operators.proofs.RelationLaws.{and_both, both_and}
 use Rattle.operators.proofs.ListedPlaces.{Found, Listed}
 use Rattle.operators.proofs.StencilPattern.{stencil_lists}
 use Rattle.operators.proofs.StencilRow.{Touched, Reads, reads_listed}
@@ -48,10 +48,10 @@ module _ (n : ℕ) (bloch : Bool) where
   -- to a node and on, the other way round: the node is not held fixed
   node_there : (own other : Bool) (i m j : ℕ) → grad n bloch own i m ≡ true → div n bloch other m j ≡ true → grad n bloch other j m ≡ true
   node_there own other i m j h g =
-      grad_turned other j m ∙ both_and (and_both (live_at bloch across m) (div n bloch own m i) (sym (grad_turned own i m) ∙ h)).0 g
+      grad_turned other j m ∙ and_from _ _ (and_parts (live_at bloch across m) (div n bloch own m i) (sym (grad_turned own i m) ∙ h)).0 g
 
   node_back : (own : Bool) (i m : ℕ) → grad n bloch own i m ≡ true → div n bloch own m i ≡ true
-  node_back own i m h = (and_both (live_at bloch across m) (div n bloch own m i) (sym (grad_turned own i m) ∙ h)).1
+  node_back own i m h = (and_parts (live_at bloch across m) (div n bloch own m i) (sym (grad_turned own i m) ∙ h)).1
 
 -- ---- three axes
 

@@ -8,6 +8,7 @@ use native.Mathlib.Decide.{ℕ_discrete, dec_lt}
 use native.Mathlib.Omega.{arith}
 use borrow.Author.Tests.{eq-eqb, eqb-true, lt-ltb}
 use lib.Dec.{eqb, ltb}
+use Rattle.std.proofs.lemmas.Bool.{and_from, or_left, or_right}
 use Rattle.numbers.specs.declared.C64.{C64}
 use Rattle.numbers.specs.Complex.{one_number, conjugate}
 use Rattle.lattice.specs.declared.grid.Position.{Position}
@@ -25,19 +26,17 @@ use Rattle.operators.specs.Pattern.{across, role_of}
 use Rattle.operators.specs.Base.{live_at, follows}
 use Rattle.operators.specs.Relations0.{ahead, back, pick}
 use Rattle.operators.specs.Levels.{is_bloch, spot_of}
-use Rattle.operators.proofs.RelationLaws.{both_and}
-use Rattle.numbers.proofs.Laws.{or_left, or_right}
 use Rattle.operators.proofs.Level0.{next_of, ahead_cases, back_cases, ahead_same, ahead_next, back_same, back_next, live_along}
 
 -- ---- one step
 
 follows_on : (n : ℕ) (bloch : Bool) (i j : ℕ) → j ≡ i + 1 → i + 1 < n → follows n bloch i j ≡ true
 unfolding follows
-follows_on n bloch i j e h = or_left ((bloch && eqb (i + 1) n) && eqb j 0) (both_and (eq-eqb j (i + 1) e) (lt-ltb (i + 1) n h))
+follows_on n bloch i j e h = or_left _ ((bloch && eqb (i + 1) n) && eqb j 0) (and_from _ _ (eq-eqb j (i + 1) e) (lt-ltb (i + 1) n h))
 
 follows_round : (n i j : ℕ) → i + 1 ≡ n → j ≡ 0 → follows n true i j ≡ true
 unfolding follows
-follows_round n i j e h = or_right (eqb j (i + 1) && ltb (i + 1) n) (both_and (eq-eqb (i + 1) n e) (eq-eqb j 0 h))
+follows_round n i j e h = or_right (eqb j (i + 1) && ltb (i + 1) n) _ (and_from _ _ (eq-eqb (i + 1) n e) (eq-eqb j 0 h))
 
 module _ (e : Edges) (n m k : ℕ) (mine : m < n) where
   up_follows : (w : C64) → shifted e n m true ≡ to_place k w → follows n (not (is_wall e)) m k ≡ true

@@ -7,18 +7,8 @@ use mathlib.Core.Bool.{Bool, true, false, ◌&&◌, ◌||◌, false≢true}
 use native.Mathlib.Nat.{not-suc-le-zero}
 use native.Mathlib.Omega.{arith}
 use native.Mathlib.Decide.{ℕ_discrete}
+use Rattle.std.proofs.lemmas.Bool.{and_from, and_parts}
 use Rattle.operators.specs.Relation.{Rel, some, after, Spot, Cube, Times, after_cube, Over, Then, Union}
-
-pub and_both : (a b : Bool) → (a && b) ≡ true → (a ≡ true) × (b ≡ true)
-and_both true b h = (refl, h)
-and_both false b h = absurd (false≢true h)
-
-pub both_and : {a b : Bool} → a ≡ true → b ≡ true → (a && b) ≡ true
-both_and h g = rw (h, g)
-
-pub neither : (a b : Bool) → (a || b) ≡ false → (a ≡ false) × (b ≡ false)
-neither true b h = absurd (false≢true (sym h))
-neither false b h = (refl, h)
 
 -- the bounded search finds a place if there is one
 pub found : (n : ℕ) (p : ℕ → Bool) → some n p ≡ true → (k : ℕ) × (k < n) × (p k ≡ true)
@@ -51,12 +41,12 @@ pub after_by : (n : ℕ) (r s : Rel) (i j : ℕ) → after n r s i j ≡ true �
 unfolding after
 after_by n r s i j h =
     let w = found n (λ k. r i k && s k j) h in
-    let b = and_both (r i w.0) (s w.0 j) w.2 in
+    let b = and_parts (r i w.0) (s w.0 j) w.2 in
     (w.0, w.1, b.0, b.1)
 
 pub by_after : (n : ℕ) (r s : Rel) (i j k : ℕ) → k < n → r i k ≡ true → s k j ≡ true → after n r s i j ≡ true
 unfolding after
-by_after n r s i j k h a b = finds n (λ k. r i k && s k j) k h (both_and a b)
+by_after n r s i j k h a b = finds n (λ k. r i k && s k j) k h (and_from _ _ a b)
 
 pub after_below : (n : ℕ) (r r' s s' : Rel) (i j : ℕ) → ((k : ℕ) → k < n → r i k ≡ r' i k) → ((k : ℕ) → k < n → s k j ≡ s' k j) → after n r s i j ≡ after n r' s' i j
 unfolding after

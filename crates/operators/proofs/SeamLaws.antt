@@ -139,10 +139,6 @@ operator_kept {l} {f} {L} {o} {ss' = ss'} {cs' = cs'} {xs' = xs'} u v =
 -- ---- how many terms stand in the lists
 
 module _ {l : FullLattice} {f : ℕ → C64} {L : ℕ} {p : Part} {ss cs : List ℕ} {xs : List Float} {t : Part} {ts us : List ℕ} {ys : List Float} (u : TransferIn l f L p ss cs xs t ts us ys) where
-  -- behind the last forward row, and behind the last turned row
-  pub transfer_count : get_or ss (p.s + edges_on l L) 0 ≡ start_of (forward_at l f L) (edges_on l L)
-  transfer_count = u.forward_count_is
-
   pub turned_count_lem : get_or ts (t.s + edges_on l (suc L)) 0 ≡ start_of (turned_at l f L) (edges_on l (suc L))
   turned_count_lem = u.turned_count_is
 

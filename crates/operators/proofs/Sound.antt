@@ -4,27 +4,27 @@ use Prim.Native.Nat.{ℕ, ◌<◌}
 use mathlib.Core.Path.{◌≡◌, refl}
 use mathlib.Core.Bool.{Bool, true, ◌&&◌}
 use borrow.Author.Tests.{eq-eqb}
+use Rattle.std.proofs.lemmas.Bool.{and_from, and_parts}
 use Rattle.operators.specs.Relation.{Rel}
 use Rattle.operators.specs.Pattern.{Role, Name, same, near, up, down, row_role, Ladder, Sound}
 use Rattle.operators.specs.Base.{live_at, base_of}
-use Rattle.operators.proofs.RelationLaws.{and_both, both_and}
 
 -- at level 0 a live place is near and the same as itself, and only live places are related to anything
 module _ (n : ℕ) (bloch : Bool) where
   pub base_same : (r : Role) (i : ℕ) → live_at bloch r i ≡ true → base_of n bloch (same r) i i ≡ true
   unfolding base_of
-  base_same r i h = both_and h (eq-eqb i i refl)
+  base_same r i h = and_from _ _ h (eq-eqb i i refl)
 
   pub base_near : (r : Role) (i : ℕ) → live_at bloch r i ≡ true → base_of n bloch (near r) i i ≡ true
   unfolding base_of
-  base_near r i h = both_and (both_and h h) (rw (eq-eqb i i refl))
+  base_near r i h = and_from _ _ (and_from _ _ h h) (rw (eq-eqb i i refl))
 
   pub base_live : (w : Name) (i j : ℕ) → base_of n bloch w i j ≡ true → live_at bloch (row_role w) i ≡ true
   unfolding base_of live_at
-  base_live (same r) i j h = (and_both _ _ h).0
-  base_live (near r) i j h = (and_both _ _ (and_both _ _ h).0).0
+  base_live (same r) i j h = (and_parts _ _ h).0
+  base_live (near r) i j h = (and_parts _ _ (and_parts _ _ h).0).0
   base_live up i j h = refl
-  base_live down i j h = (and_both _ _ h).0
+  base_live down i j h = (and_parts _ _ h).0
 
 -- n L d: cells; bloch d: the axis' kind; weights L d r: the places that the interpolation gives
 module _ (n : ℕ → ℕ → ℕ) (bloch : ℕ → Bool) (weights : ℕ → ℕ → Role → Rel) where
@@ -50,4 +50,4 @@ module _ (n : ℕ → ℕ → ℕ) (bloch : ℕ → Bool) (weights : ℕ → ℕ
     where
       lives : (L d : ℕ) (r : Role) (k i : ℕ) → (weights L d r k i && (live_at (bloch d) r k && live_at (bloch d) r i)) ≡ true
           → (live_at (bloch d) r k ≡ true) × (live_at (bloch d) r i ≡ true)
-      lives L d r k i h = and_both (live_at (bloch d) r k) (live_at (bloch d) r i) (and_both (weights L d r k i) (live_at (bloch d) r k && live_at (bloch d) r i) h).1
+      lives L d r k i h = and_parts (live_at (bloch d) r k) (live_at (bloch d) r i) (and_parts (weights L d r k i) (live_at (bloch d) r k && live_at (bloch d) r i) h).1

@@ -8,6 +8,7 @@ use mathlib.Core.List.{List, [], ◌∷◌, ◌++◌}
 use native.Mathlib.Omega.{arith}
 use borrow.Author.Tests.{not-true}
 use lib.Dec.{eqb}
+use Rattle.std.proofs.lemmas.Bool.{and_from, and_parts}
 use Rattle.numbers.specs.declared.C64.{C64}
 use Rattle.numbers.specs.Lists.{each, contains}
 use Rattle.numbers.specs.Terms.{columns_of}
@@ -26,7 +27,6 @@ use Rattle.operators.specs.Relations0.{ahead, pick, grad, cells, grad_cube, div_
 use Rattle.operators.specs.Stencil.{stencil_reads}
 use Rattle.operators.specs.Levels.{is_bloch, spot_of}
 use Rattle.lattice.proofs.ColumnLaws.{fixed_at_lem, curl_e_at_lem, curl_h_at_lem, gradient_at_lem, off_axis, free_off, off_free, free_walls, walls_free, face_columns, face_columns_is, row_columns_lem, row_reads_lem}
-use Rattle.operators.proofs.RelationLaws.{and_both, both_and}
 use Rattle.operators.proofs.NeighbourSpots.{live_across, live_role, low3}
 use Rattle.operators.proofs.ListedPlaces.{Listed, Lists, lists_contain, lists_same, listed_append, Through, listed_each, listed_free}
 use Rattle.operators.proofs.DifferencePlaces.{Moves, Crosses, Leaves, curl_e_lists, curl_h_lists, divergence_lists, gradient_lists}
@@ -66,9 +66,9 @@ module _ (l : FullLattice) (limits : Limits l.grid) (p s : Position) (inside : I
   unfolding grad
   moves_climbs m h =
       record {
-        x = both_and (rw (place_on_0 s) at (live 0 (omega arith))) m.1.x;
-        y = both_and (rw (place_on_1 s) at (live 1 (omega arith))) m.1.y;
-        z = both_and (rw (place_on_2 s) at (live 2 (omega arith))) m.1.z;
+        x = and_from _ _ (rw (place_on_0 s) at (live 0 (omega arith))) m.1.x;
+        y = and_from _ _ (rw (place_on_1 s) at (live 1 (omega arith))) m.1.y;
+        z = and_from _ _ (rw (place_on_2 s) at (live 2 (omega arith))) m.1.z;
       }
     where
       live : (d : ℕ) → d < 3 → live_at (is_bloch l d) across (place_on s d) ≡ true
@@ -79,9 +79,9 @@ module _ (l : FullLattice) (limits : Limits l.grid) (p s : Position) (inside : I
   climbs_moves e h =
       let n = n_of l.grid in
       let b = is_bloch l in
-      let x = and_both (live_at (b 0) across s.i) (pick (eqb 0 p.component) (ahead (n 0) (b 0)) eqb p.i s.i) h.x in
-      let y = and_both (live_at (b 1) across s.j) (pick (eqb 1 p.component) (ahead (n 1) (b 1)) eqb p.j s.j) h.y in
-      let z = and_both (live_at (b 2) across s.k) (pick (eqb 2 p.component) (ahead (n 2) (b 2)) eqb p.k s.k) h.z in (
+      let x = and_parts (live_at (b 0) across s.i) (pick (eqb 0 p.component) (ahead (n 0) (b 0)) eqb p.i s.i) h.x in
+      let y = and_parts (live_at (b 1) across s.j) (pick (eqb 1 p.component) (ahead (n 1) (b 1)) eqb p.j s.j) h.y in
+      let z = and_parts (live_at (b 2) across s.k) (pick (eqb 2 p.component) (ahead (n 2) (b 2)) eqb p.k s.k) h.z in (
         (e, record { x = x.1; y = y.1; z = z.1 }),
         walls_free l limits inside
             (low3 (λ d. on_wall l s d ≡ false) (wall 0 (rw (place_on_0 s) x.0)) (wall 1 (rw (place_on_1 s) y.0)) (wall 2 (rw (place_on_2 s) z.0))),

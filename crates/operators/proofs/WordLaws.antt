@@ -1,6 +1,6 @@
 -- Bits of unions, of single places and of the empty word; words gathered from words.
 -- Assumes nothing.
-use Prim.Native.Nat.{ℕ, zero, suc, ◌+◌, ◌-◌, ◌*◌, ◌/◌, ◌%◌, ◌^◌, ◌<◌, ◌≤◌, max}
+use Prim.Native.Nat.{ℕ, zero, suc, ◌+◌, ◌-◌, ◌*◌, ◌/◌, ◌%◌, ◌^◌, ◌<◌, max}
 use mathlib.Core.Path.{◌≡◌, refl, sym, ◌∙◌, ap}
 use mathlib.Core.Bool.{Bool, true, false, cond, ◌&&◌, ◌||◌}
 use mathlib.Core.List.{List}
@@ -12,8 +12,7 @@ use borrow.Author.Tests.{eq-eqb, ne_eqb}
 use lib.Dec.{eqb}
 use lib.Pow.{pow_pos, pow-lt, pow-add, shl-shr}
 use lib.Bits.{bit_or, or_shr, or_step, or_zero_l, or_zero_r}
-use lib.ListN.{length, get_or, take, drop, length-take, length-drop}
-use Rattle.std.proofs.lemmas.List.{get_or-take, get_or-drop}
+use lib.ListN.{length}
 use Rattle.numbers.specs.Lists.{tabulate, contains, entry_at}
 use Rattle.numbers.proofs.Equations.{tabulate_zero, contains_nil}
 use Rattle.numbers.proofs.ListLaws.{tabulate_more}
@@ -107,13 +106,6 @@ pub gathered_agree : (n : ℕ) {p p' : ℕ → Bool} {w w' : ℕ → ℕ} → ((
 unfolding gathered
 gathered_agree zero f g = refl
 gathered_agree (suc n) f g = rw (gathered_agree n (λ k h. f k (omega arith)) (λ k h. g k (omega arith)), f n (omega arith), g n (omega arith))
-
--- words cut out of a list
-pub gathered_cut : (p : ℕ → Bool) (xs : List ℕ) (k n m : ℕ) → m ≡ n → k + n ≤ length xs
-    → gathered (length (take m (drop k xs))) p (entry_at (take m (drop k xs))) ≡ gathered n p (λ i. get_or xs (k + i) 0)
-gathered_cut p xs k n m e h =
-    let l : length (take m (drop k xs)) ≡ n = omega (arith, length-take m (drop k xs), length-drop k xs) in
-    rw l (gathered_agree n (λ i b. refl) (λ i b. get_or-take m (drop k xs) i 0 (omega arith) ∙ get_or-drop k xs i 0))
 
 pub bit_gathered : (n : ℕ) (p : ℕ → Bool) (w : ℕ → ℕ) (j : ℕ) → bit_at (gathered n p w) j ≡ some n (λ k. p k && bit_at (w k) j)
 unfolding gathered some

@@ -1,63 +1,21 @@
 -- The lowest set digit of a word, the first place of a set at or behind another, and words with the same places.
 -- Assumes nothing.
-use Prim.Native.Nat.{ℕ, zero, suc, ◌+◌, ◌-◌, ◌*◌, ◌/◌, ◌%◌, ◌^◌, ◌<◌, ◌≤◌}
+use Prim.Native.Nat.{ℕ, zero, suc, ◌+◌, ◌-◌, ◌/◌, ◌%◌, ◌^◌, ◌<◌, ◌≤◌}
 use mathlib.Core.Path.{◌≡◌, refl, sym, ◌∙◌, ap, subst}
 use mathlib.Core.Bool.{false, true, true≢false, false≢true}
 use mathlib.Core.List.{List}
-use native.Mathlib.Nat.{mod-lt, zero-lt-suc, zero-div, pow-suc, div-one, zero-add, suc-add}
+use native.Mathlib.Nat.{mod-lt, zero-lt-suc, zero-div, div-eq_of_lt, div-one, zero-add, suc-add}
 use native.Mathlib.Omega.{arith}
-use lib.Count.{count_trailing_zeros, under}
+use lib.Count.{count_trailing_zeros}
 use lib.Dec.{eqb}
-use lib.Pow.{shr-shr, shr_lt}
+use native.Mathlib.Decide.{dec_lt}
+use lib.Pow.{shr-shr, pow_mono}
+use mir.Syntax.{w64}
+use Rattle.std.proofs.lemmas.Nat.{shr_le}
+use Rattle.std.proofs.lemmas.Nat.Bits.{bit_at-trailing_zeros}
+use Rattle.std.proofs.lemmas.Bool.{or_parts}
 use Rattle.operators.specs.Bits.{bit_at, mix_of, NextPlace}
-use Rattle.operators.proofs.RelationLaws.{neither}
 use Rattle.operators.proofs.WordLaws.{bit_mix}
-
--- ---- the zeros below the lowest set digit
-
-half_digit : (n j : ℕ) → n / 2 ^ suc j % 2 ≡ n / 2 / 2 ^ j % 2
-half_digit n j =
-    let e : suc j ≡ 1 + j = omega arith in
-    rw e (ap (λ (x : ℕ). x % 2) (sym (shr-shr n 1 j)))
-
--- the digits below it are 0
-pub trailing_below : (k n j : ℕ) → j < count_trailing_zeros k n → n / 2 ^ j % 2 ≡ 0
-unfolding count_trailing_zeros
-trailing_below zero n j h = absurd (omega arith)
-trailing_below (suc k) n j h = go (n % 2) refl j h (trailing_below k (n / 2))
-  where
-    go : (d : ℕ) → n % 2 ≡ d → (j : ℕ) → j < under d (count_trailing_zeros k (n / 2)) → ((i : ℕ) → i < count_trailing_zeros k (n / 2) → n / 2 / 2 ^ i % 2 ≡ 0) → n / 2 ^ j % 2 ≡ 0
-    go zero e zero g more = rw (div-one n) e
-    go zero e (suc i) g more = half_digit n i ∙ more i (omega arith)
-    go (suc d) e j g more = absurd (omega arith)
-
--- it is 1 itself
-pub trailing_digit : (k n : ℕ) → count_trailing_zeros k n < k → n / 2 ^ count_trailing_zeros k n % 2 ≡ 1
-unfolding count_trailing_zeros
-trailing_digit zero n h = absurd (omega arith)
-trailing_digit (suc k) n h = go (n % 2) refl h (trailing_digit k (n / 2))
-  where
-    go : (d : ℕ) → n % 2 ≡ d → under d (count_trailing_zeros k (n / 2)) < suc k
-        → (count_trailing_zeros k (n / 2) < k → n / 2 / 2 ^ count_trailing_zeros k (n / 2) % 2 ≡ 1) → n / 2 ^ under d (count_trailing_zeros k (n / 2)) % 2 ≡ 1
-    go zero e g more = half_digit n (count_trailing_zeros k (n / 2)) ∙ more (omega arith)
-    go (suc zero) e g more = rw (div-one n) e
-    go (suc (suc d)) e g more = absurd (omega (arith, mod-lt n (zero-lt-suc 1)))
-
--- a number that is not 0 has it among its digits
-pub trailing_short : (k m n : ℕ) → 0 < n → n < 2 ^ m → count_trailing_zeros k n < m
-unfolding count_trailing_zeros
-trailing_short k zero n p h = absurd (omega arith)
-trailing_short zero (suc m) n p h = omega arith
-trailing_short (suc k) (suc m) n p h = go (n % 2) refl (trailing_short k m (n / 2))
-  where
-    half : n / 2 < 2 ^ m
-    half =
-        let e : 2 ^ suc m ≡ 2 ^ m * 2 = pow-suc 2 m in
-        omega arith
-
-    go : (d : ℕ) → n % 2 ≡ d → (0 < n / 2 → n / 2 < 2 ^ m → count_trailing_zeros k (n / 2) < m) → under d (count_trailing_zeros k (n / 2)) < suc m
-    go zero e more = omega (arith, more (omega arith) half)
-    go (suc d) e more = omega arith
 
 -- ---- the first place of a set
 
@@ -80,20 +38,26 @@ module _ (w i : ℕ) (low : i < 64) where
       record {
         from = omega arith;
         last = omega (arith, short);
-        none = λ k h g. rw (shifted k h, trailing_below 64 (w / 2 ^ i) (k - i) (omega arith));
-        here = λ h. rw (shifted (i + z) (omega arith), back, trailing_digit 64 (w / 2 ^ i) (omega (arith, short)));
+        none = λ k h g. rw (shifted k h, lowest.1 (k - i) (omega arith));
+        here = λ h. rw (← shr-shr w i z, lowest.0);
       }
     where
       z : ℕ
       z = count_trailing_zeros 64 (w / 2 ^ i)
 
-      short : count_trailing_zeros 64 (w / 2 ^ i) < 64 - i
-      short =
-          let e : 64 ≡ (64 - i) + i = omega arith in
-          trailing_short 64 (64 - i) (w / 2 ^ i) p (shr_lt (64 - i) i (subst (λ (x : ℕ). w < 2 ^ x) e word))
+      lowest : (w / 2 ^ i / 2 ^ z % 2 ≡ 1) × ((k : ℕ) → k < z → w / 2 ^ i / 2 ^ k % 2 ≡ 0)
+      lowest = let h = bit_at-trailing_zeros w64 (w / 2 ^ i) p (omega (arith, shr_le w i, word)) in (h.1, h.2)
 
-      back : i + count_trailing_zeros 64 (w / 2 ^ i) - i ≡ count_trailing_zeros 64 (w / 2 ^ i)
-      back = omega arith
+      -- a word has no digit behind its last
+      short : i + z < 64
+      short = go (dec_lt (i + z) 64)
+        where
+          go : Dec (i + z < 64) → i + z < 64
+          go (yes h) = h
+          go (no h) =
+              let g : w < 2 ^ (i + z) = omega (arith, word, pow_mono {i = 64} {j = i + z} (omega arith)) in
+              let e : w / 2 ^ i / 2 ^ z ≡ 0 = shr-shr w i z ∙ div-eq_of_lt g in
+              absurd (omega (arith, lowest.0, e))
 
 -- what stays where w has not the place stays up to w's next place
 pub next_same : {i r : ℕ} (w : ℕ) (f : ℕ → List ℕ) → ((k : ℕ) → bit_at w k ≡ false → f k ≡ f (suc k)) → NextPlace w i r → f i ≡ f r
@@ -107,9 +71,14 @@ next_same {i} {r} w f pass o =
 
 -- a place that the union has not, neither has
 pub union_none : (a b k : ℕ) → bit_at (mix_of true a true b) k ≡ false → (bit_at a k ≡ false) × (bit_at b k ≡ false)
-union_none a b k e = neither (bit_at a k) (bit_at b k) (sym (bit_mix true a true b k) ∙ e)
+union_none a b k e = or_parts (bit_at a k) (bit_at b k) (sym (bit_mix true a true b k) ∙ e)
 
 -- ---- words with the same places are the same
+
+half_digit : (n j : ℕ) → n / 2 ^ suc j % 2 ≡ n / 2 / 2 ^ j % 2
+half_digit n j =
+    let e : suc j ≡ 1 + j = omega arith in
+    rw e (ap (λ (x : ℕ). x % 2) (sym (shr-shr n 1 j)))
 
 digit_same : (u v : ℕ) → u < 2 → v < 2 → eqb u 1 ≡ eqb v 1 → u ≡ v
 digit_same zero zero h g e = refl

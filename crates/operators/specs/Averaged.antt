@@ -244,12 +244,12 @@ pub record HatsFit (b j n : ℕ) (xs : List Hat) : Type 0 where
   pub room : j + n ≤ length xs
   pub nodes_in : (q : ℕ) → q < n → (hat_at xs (j + q)).node < b
 
--- the hats around the node of p on the axes across its component: those of the next axis from place 0 on, those of the last from place 128 on
-pub record HatsAcross (t : TwoLevels) (p : Position) (xs : List Hat) (k : Counts) : Type 0 where
+-- the hats around the node of p on the axes across its component, those of the next axis in one list, those of the last in another
+pub record HatsAcross (t : TwoLevels) (p : Position) (xs ys : List Hat) (k : Counts) : Type 0 where
   pub next_are : hats_in xs 0 k.next ≡ hats_on t p (next_axis p.component)
-  pub last_are : hats_in xs 128 k.last ≡ hats_on t p (last_axis p.component)
+  pub last_are : hats_in ys 0 k.last ≡ hats_on t p (last_axis p.component)
   pub next_fit : HatsFit (n_of (fine_grid t) (next_axis p.component)) 0 k.next xs
-  pub last_fit : HatsFit (n_of (fine_grid t) (last_axis p.component)) 128 k.last xs
+  pub last_fit : HatsFit (n_of (fine_grid t) (last_axis p.component)) 0 k.last ys
 
 -- the mean from the lists: the nodes nn, 65 for each axis, and the hats
 unfoldable pub hats_by : List Hat → List ℕ → Position → ℕ → List Hat

@@ -8,9 +8,11 @@ use Rattle.numbers.specs.Places.{places, number_at, set_number}
 use Rattle.numbers.specs.Terms.{Term, columns_of, numbers_of, stored_row, Stored, most_rows}
 use Rattle.numbers.specs.Lists.{each, tabulate, rows, laid_numbers, all_finite, contains, start_of}
 use Rattle.lattice.specs.Grid.{unknowns_of, Limits}
-use Rattle.lattice.specs.Lattice.{FullLattice}
+use Rattle.lattice.specs.Lattice.{FullLattice, full_lattice}
 use Rattle.numbers.specs.declared.terms.Part.{Part}
 use Rattle.operators.specs.declared.galerkin.Rows.{Rows}
+use Rattle.operators.specs.declared.galerkin.Fine.{Fine}
+use Rattle.operators.specs.declared.galerkin.Fine.TheVariants.{Computed as FromLattice, Stored as FromLists}
 use Rattle.operators.specs.declared.galerkin.FineRows.{FineRows}
 use Rattle.operators.specs.declared.galerkin.FineRows.TheVariants.{Computed, Stored as StoredFrom}
 use Rattle.operators.specs.Stencil.{stencil_row}
@@ -95,20 +97,48 @@ pub record HasRow (p : Part) (starts cs : List ℕ) (xs : List Float) (c : ℕ) 
   pub stored : Stored starts p.s cs xs p.k n m
   pub low : c < n
 
+-- its terms stand from place `first` up to `last`
+pub record RowPlaces (p : Rows) (c first last : ℕ) : Type 0 where
+  pub first_is : first ≡ p.part.k + get_or p.starts.now (p.part.s + c) 0
+  pub last_is : last ≡ p.part.k + get_or p.starts.now (p.part.s + c + 1) 0
+
 -- so is each of those whose numbers stand in another list, count of them from place k on
 pub record HasRows (p : Part) (starts cs : List ℕ) (xs : List Float) (ds : List ℕ) (k count : ℕ) : Type 0 where
   pub each_there : (q : ℕ) → q < count → HasRow p starts cs xs (get_or ds (k + q) 0)
 
--- what is read: fine rows, whose lists are os, oc and ox, and forward rows
-module _ (fine : FineRows) (l : FullLattice) (eps : List Float) (os oc : List ℕ) (ox : List Float) (p : Part) (ss cs : List ℕ) (xs : List Float) where
-  -- for fine row r
-  pub record FineGiven (r : ℕ) : Type 0 where
-    pub n : ℕ
-    pub m : ℕ
-    pub ready : FineReady fine l eps os oc ox n
-    pub forward : Stored ss p.s cs xs p.k n m
-    pub low : r < n
+-- the same rows, from all that they are worked out from
+unfoldable pub fine_of : Fine → ℕ → List Term
+fine_of (FromLattice l st eps) = stencil_row (full_lattice l st.now) (number_at eps.now)
+fine_of (FromLists o) = rows_of o
 
+-- there are n of them
+unfoldable pub FineHas : Fine → ℕ → Type 0
+FineHas (FromLattice l st eps) n = Computable (full_lattice l st.now) eps.now n
+FineHas (FromLists o) n = Stored o.starts.now o.part.s o.columns.now o.values.now o.part.k n n
+
+-- f was made of the same as `fine_row`
+pub record FineMade (fine : FineRows) (l : FullLattice) (eps : List Float) (starts cs : List ℕ) (xs : List Float) (f : Fine) : Type 0 where
+  pub rows : fine_row fine l (number_at eps) starts cs xs ≡ fine_of f
+  pub has : (n : ℕ) → FineReady fine l eps starts cs xs n → FineHas f n
+
+-- what is read for fine row r: it and forward rows
+pub record FineThere (f : Fine) (p : Rows) (r : ℕ) : Type 0 where
+  pub n : ℕ
+  pub m : ℕ
+  pub has : FineHas f n
+  pub forward : Stored p.starts.now p.part.s p.columns.now p.values.now p.part.k n m
+  pub low : r < n
+
+-- and for row c: turned row c, fine rows and forward rows
+pub record TurnedThere (f : Fine) (p t : Rows) (c : ℕ) : Type 0 where
+  pub n : ℕ
+  pub m : ℕ
+  pub has : FineHas f n
+  pub transfer : TransferStored p.part p.starts.now p.columns.now p.values.now t.part t.starts.now t.columns.now t.values.now n m
+  pub low : c < m
+
+-- the same over lists that stand apart: fine rows, whose lists are os, oc and ox, and forward rows
+module _ (fine : FineRows) (l : FullLattice) (eps : List Float) (os oc : List ℕ) (ox : List Float) (p : Part) (ss cs : List ℕ) (xs : List Float) where
   -- and turned rows
   module _ (t : Part) (ts us : List ℕ) (ys : List Float) where
     -- for row c

@@ -2,17 +2,17 @@
 
 ghost use Rattle.std.specs.Prelude.{◌≡◌, [], ◌∷◌, ℕ, ◌+◌, ◌-◌, ◌*◌, ◌<◌, ◌≤◌, ◌^◌, length, get_or};
 ghost use Rattle.lattice.specs.Grid.{axis3, n_of, next_axis, last_axis, place_on, moved_to, unknowns_of, Limits, Inside};
-ghost use Rattle.lattice.specs.Lattice.{full_lattice};
 ghost use Rattle.numbers.specs.Complex.{finite};
 ghost use Rattle.numbers.specs.Places.{set_number};
 ghost use Rattle.numbers.specs.Lists.{tabulate, each, laid_numbers, all_finite, read_from, any_flag};
 ghost use Rattle.lattice.specs.Line.{ends_of, Held};
-ghost use Rattle.weights.specs.TwoLevels.{two_of, coarse_cells, fine_grid, coarse_grid};
+ghost use Rattle.weights.specs.Pair.{two};
+ghost use Rattle.weights.specs.TwoLevels.{coarse_cells, fine_grid, coarse_grid};
 ghost use Rattle.weights.specs.Tables.{node_no, ChainRoom, node_count};
-ghost use Rattle.operators.specs.Averaged.{hat_weight, wrapped_place, walk, hat_above, lower_hats, around, hats_around, line_edges, hat_edges, weigh_line, weigh_all, nothing, mean_of, averaged_eps, averaged_reads, hats_by, HatsLaid, NodesFrom, AxisHats, Hats, HatsAcross, LinePair, PairedLines, NodesBelow, CellReady, CellFits, cell_in, averaged_in, averaged_no, AverageReady, AveragesReady, hat_counts, hat_places};
+ghost use Rattle.operators.specs.Averaged.{hat_weight, wrapped_place, walk, hat_above, lower_hats, around, hats_around, line_edges, hat_edges, weigh_line, weigh_all, nothing, mean_of, averaged_eps, averaged_reads, hats_by, HatsLaid, NodesFrom, AxisHats, Hats, HatsAcross, LinePair, NodesBelow, CellReady, CellFits, cell_in, averaged_in, averaged_no, AverageReady, AveragesReady, hat_counts, hat_places};
 
+use crate::nested::NestedPair;
 use lattice::grid::{Grid3d, Position};
-use lattice::lattice::Lattice;
 use lattice::levels::Three;
 use lattice::line::Line;
 use lattice::{grid, line};
@@ -141,6 +141,7 @@ fn push_upper(
     ensures { HatsLaid hats.old from (tabulate (hat_above (ends_of f) at width) (last - first) first) hats.new result }
 {
     let mut k = from;
+    // An index: it is the node's number, which the hat has.
     for q in first..last {
         let h = Hat {
             node: q,
@@ -151,7 +152,26 @@ fn push_upper(
     k
 }
 
-// The nodes below coarse node m; none before a wall. nn has the number on the fine line of each coarse node, from place o on.
+// The nodes between coarse node `end` and the one before it. nn has the number on the fine line of each coarse node, from place o on.
+fn push_between(
+    f: Line,
+    c: Line,
+    nn: &[usize],
+    o: usize,
+    end: usize,
+    hats: &mut [Hat],
+    from: usize,
+) -> usize
+    requires line_pair { LinePair f c }
+    requires nodes_from { NodesFrom (ends_of f) (ends_of c) c.cells nn.now o }
+    requires end_bound { (1 ≤ end) × (end ≤ c.cells) × (from < 2 ^ 30) }
+    ensures { HatsLaid hats.old from (walk (ends_of f) (get_or c.ends end 0) (get_or c.ends end 0 - get_or c.ends (end - 1) 0) f.cells (get_or nn.now (o + end - 1) 0 + 1)) hats.new result }
+{
+    let at = c.ends[end];
+    walk_lower(f, at, at - c.ends[end - 1], nn[o + end - 1] + 1, hats, from)
+}
+
+// The nodes below coarse node m: none before a wall, and at node 0 of a Bloch axis those below the line's end, a period further.
 fn push_lower(
     f: Line,
     c: Line,
@@ -167,16 +187,13 @@ fn push_lower(
     requires m_lt_cells { (m < c.cells) × (from < 2 ^ 30) }
     ensures { HatsLaid hats.old from (lower_hats wall (ends_of f) (ends_of c) m) hats.new result }
 {
-    let n = c.cells;
-    if m == 0 {
-        if wall {
-            return from;
-        }
-        let at = c.ends[n];
-        return walk_lower(f, at, at - c.ends[n - 1], nn[o + n - 1] + 1, hats, from);
+    if m > 0 {
+        return push_between(f, c, nn, o, m, hats, from);
     }
-    let at = c.ends[m];
-    walk_lower(f, at, at - c.ends[m - 1], nn[o + m - 1] + 1, hats, from)
+    if wall {
+        return from;
+    }
+    push_between(f, c, nn, o, c.cells, hats, from)
 }
 
 // The nodes around coarse node m, each with its weight, at most 127.
@@ -222,6 +239,7 @@ fn axis_hats(f: Line, c: Line, wall: bool, axis: usize, hats: &mut [Hat], counts
 {
     let nn = line::nodes_of(f, c);
     let n = c.cells;
+    // An index: node m's count stands at b, its hats from 128 b on.
     for m in 0..n {
         let b = 64 * axis + m;
         counts[b] = push_around(f, c, &nn, 0, wall, m, hats, 128 * b) - 128 * b;
@@ -229,20 +247,20 @@ fn axis_hats(f: Line, c: Line, wall: bool, axis: usize, hats: &mut [Hat], counts
 }
 
 // Those of two levels.
-fn hats(l: Lattice, st: &[f64], fine: Three, coarse: Three, hats: &mut [Hat], counts: &mut [usize])
-    requires paired_lines { PairedLines (full_lattice l st.now) fine coarse }
+fn hats(nested: &NestedPair<'_>, hats: &mut [Hat], counts: &mut [usize])
     requires hats_len { (length hats.old ≡ hat_places) × (length counts.old ≡ hat_counts) }
-    ensures { Hats (two_of (full_lattice l st.now) fine coarse) hats.new counts.new }
+    ensures { Hats (two nested.now.pair.now) hats.new counts.new }
 {
-    let x = l.x;
-    let y = l.y;
-    let z = l.z;
+    let pair = nested.pair;
+    let x = pair.l.lattice.x;
+    let y = pair.l.lattice.y;
+    let z = pair.l.lattice.z;
     let wx = lattice::lattice::is_wall(x);
     let wy = lattice::lattice::is_wall(y);
     let wz = lattice::lattice::is_wall(z);
-    axis_hats(fine.x, coarse.x, wx, 0, hats, counts);
-    axis_hats(fine.y, coarse.y, wy, 1, hats, counts);
-    axis_hats(fine.z, coarse.z, wz, 2, hats, counts);
+    axis_hats(pair.fine.x, pair.coarse.x, wx, 0, hats, counts);
+    axis_hats(pair.fine.y, pair.coarse.y, wy, 1, hats, counts);
+    axis_hats(pair.fine.z, pair.coarse.z, wz, 2, hats, counts);
 }
 
 // ---- the mean
@@ -361,36 +379,28 @@ fn all_averaged(
 }
 
 // The permittivities of the coarse level of two, laid from place `to` on, from those of the fine one at place `from`; whether all are finite.
-pub fn averaged_eps(
-    l: Lattice,
-    st: &[f64],
-    fine: Three,
-    coarse: Three,
-    eps: &mut [f64],
-    from: usize,
-    to: usize,
-) -> bool
-    requires paired_lines { PairedLines (full_lattice l st.now) fine coarse }
-    requires chain_room { ChainRoom (unknowns_of (fine_grid (two_of (full_lattice l st.now) fine coarse))) (unknowns_of (coarse_grid (two_of (full_lattice l st.now) fine coarse))) from to eps.old }
-    ensures eps_after { eps.new ≡ laid_numbers eps.old to (tabulate (averaged_eps (two_of (full_lattice l st.now) fine coarse)
-        (read_from eps.old from)) (unknowns_of (coarse_grid (two_of (full_lattice l st.now) fine coarse))) 0) }
-    ensures value { result ≡ all_finite (tabulate (averaged_eps (two_of (full_lattice l st.now) fine coarse) (read_from eps.old from))
-        (unknowns_of (coarse_grid (two_of (full_lattice l st.now) fine coarse))) 0) }
+pub fn averaged_eps(nested: &NestedPair<'_>, eps: &mut [f64], from: usize, to: usize) -> bool
+    requires chain_room { ChainRoom (unknowns_of (fine_grid (two nested.now.pair.now))) (unknowns_of (coarse_grid (two nested.now.pair.now))) from to eps.old }
+    ensures eps_after { eps.new ≡ laid_numbers eps.old to (tabulate (averaged_eps (two nested.now.pair.now)
+        (read_from eps.old from)) (unknowns_of (coarse_grid (two nested.now.pair.now))) 0) }
+    ensures value { result ≡ all_finite (tabulate (averaged_eps (two nested.now.pair.now) (read_from eps.old from))
+        (unknowns_of (coarse_grid (two nested.now.pair.now))) 0) }
 {
-    let gf = tables::grid_of(l.grid, fine);
-    let gc = tables::grid_of(l.grid, coarse);
-    let nn = tables::nodes(l, st, fine, coarse);
+    let pair = nested.pair;
+    let gf = tables::grid_of(pair.l.lattice.grid, pair.fine);
+    let gc = tables::grid_of(pair.l.lattice.grid, pair.coarse);
+    let nn = tables::nodes(pair);
     let mut around = [NO_HAT; HAT_PLACES];
     let mut counts = [0usize; HAT_COUNTS];
-    hats(l, st, fine, coarse, &mut around, &mut counts);
+    hats(nested, &mut around, &mut counts);
     all_averaged(gf, gc, &nn, &around, &counts, eps, from, to);
     lists::finite_numbers(eps, to, grid::unknowns(gc))
 }
 
 // ---- one edge alone
 
-fn line_on(s: Three, axis: usize) -> Line
-    ensures { result ≡ axis3 axis s.x s.y s.z }
+fn line_on(s: &Three, axis: usize) -> Line
+    ensures { result ≡ axis3 axis s.now.x s.now.y s.now.z }
 {
     if axis == 0 {
         return s.x;
@@ -403,101 +413,81 @@ fn line_on(s: Three, axis: usize) -> Line
 
 // The hats around node m of an axis of two levels. nn has the nodes' numbers, 65 for each axis.
 fn around_on(
-    l: Lattice,
-    st: &[f64],
-    fine: Three,
-    coarse: Three,
+    nested: &NestedPair<'_>,
     nn: &[usize],
     axis: usize,
     m: usize,
     hats: &mut [Hat],
-    from: usize,
 ) -> usize
-    requires paired_lines { PairedLines (full_lattice l st.now) fine coarse }
-    requires nn_value { nn.now ≡ tabulate (node_no (two_of (full_lattice l st.now) fine coarse)) node_count 0 }
-    requires axis_bound { (axis < 3) × (m < coarse_cells (two_of (full_lattice l st.now) fine coarse) axis) × (from < 2 ^ 20) }
-    ensures { HatsLaid hats.old from (hats_around (two_of (full_lattice l st.now) fine coarse) axis m)
+    requires nn_value { nn.now ≡ tabulate (node_no (two nested.now.pair.now)) node_count 0 }
+    requires axis_bound { (axis < 3) × (m < coarse_cells (two nested.now.pair.now) axis) }
+    ensures { HatsLaid hats.old 0 (hats_around (two nested.now.pair.now) axis m)
         hats.new result }
 {
-    let wall = lattice::lattice::is_wall(lattice::lattice::edges_on(l, st, axis));
-    let f = line_on(fine, axis);
-    let c = line_on(coarse, axis);
-    push_around(f, c, nn, 65 * axis, wall, m, hats, from)
+    let pair = nested.pair;
+    let edges = lattice::lattice::edges_on(pair.l.lattice, pair.l.st, axis);
+    let wall = lattice::lattice::is_wall(edges);
+    let f = line_on(&pair.fine, axis);
+    let c = line_on(&pair.coarse, axis);
+    push_around(f, c, nn, 65 * axis, wall, m, hats, 0)
 }
 
-// Those around the node of a coarse edge at p on the axes across it: on the next from place 0 on, on the last from place 128 on.
+// Those around the node of a coarse edge at p on the axes across it, the next and the last.
 fn hats_across(
-    l: Lattice,
-    st: &[f64],
-    fine: Three,
-    coarse: Three,
+    nested: &NestedPair<'_>,
     nn: &[usize],
     p: Position,
-    hats: &mut [Hat],
+    next: &mut [Hat],
+    last: &mut [Hat],
 ) -> Counts
-    requires paired_lines { PairedLines (full_lattice l st.now) fine coarse }
-    requires nn_value { nn.now ≡ tabulate (node_no (two_of (full_lattice l st.now) fine coarse)) node_count 0 }
-    requires inside { Inside (coarse_grid (two_of (full_lattice l st.now) fine coarse)) p }
-    requires hats_len { length hats.old ≡ 256 }
-    ensures { HatsAcross (two_of (full_lattice l st.now) fine coarse) p hats.new result }
+    requires nn_value { nn.now ≡ tabulate (node_no (two nested.now.pair.now)) node_count 0 }
+    requires inside { Inside (coarse_grid (two nested.now.pair.now)) p }
+    requires hats_len { (length next.old ≡ 128) × (length last.old ≡ 128) }
+    ensures { HatsAcross (two nested.now.pair.now) p next.new last.new result }
 {
     let b = grid::next_axis(p.component);
     let c = grid::last_axis(p.component);
     let i = grid::place_on(p, b);
     let j = grid::place_on(p, c);
-    let next = around_on(l, st, fine, coarse, nn, b, i, hats, 0);
-    let last = around_on(l, st, fine, coarse, nn, c, j, hats, 128);
     Counts {
-        next: next,
-        last: last - 128,
+        next: around_on(nested, nn, b, i, next),
+        last: around_on(nested, nn, c, j, last),
     }
 }
 
 // The permittivity of coarse edge r of two, read from place `from` on.
-fn averaged_edge(
-    l: Lattice,
-    st: &[f64],
-    fine: Three,
-    coarse: Three,
-    nn: &[usize],
-    eps: &[f64],
-    from: usize,
-    r: usize,
-) -> C64
-    requires paired_lines { PairedLines (full_lattice l st.now) fine coarse }
-    requires nn_value { nn.now ≡ tabulate (node_no (two_of (full_lattice l st.now) fine coarse)) node_count 0 }
-    requires r_bound { r < unknowns_of (coarse_grid (two_of (full_lattice l st.now) fine coarse)) }
-    requires from_bound { (from ≤ 2 ^ 32) × (2 * (from + unknowns_of (fine_grid (two_of (full_lattice l st.now) fine coarse))) ≤ length eps.now) }
-    ensures { result ≡ averaged_eps (two_of (full_lattice l st.now) fine coarse) (read_from eps.now from) r }
+fn averaged_edge(nested: &NestedPair<'_>, nn: &[usize], eps: &[f64], from: usize, r: usize) -> C64
+    requires nn_value { nn.now ≡ tabulate (node_no (two nested.now.pair.now)) node_count 0 }
+    requires r_bound { r < unknowns_of (coarse_grid (two nested.now.pair.now)) }
+    requires from_bound { (from ≤ 2 ^ 32) × (2 * (from + unknowns_of (fine_grid (two nested.now.pair.now))) ≤ length eps.now) }
+    ensures { result ≡ averaged_eps (two nested.now.pair.now) (read_from eps.now from) r }
 {
-    let gf = tables::grid_of(l.grid, fine);
-    let p = grid::at(tables::grid_of(l.grid, coarse), r);
-    let mut hats = [NO_HAT; 256];
-    let k = hats_across(l, st, fine, coarse, nn, p, &mut hats);
+    let pair = nested.pair;
+    let gf = tables::grid_of(pair.l.lattice.grid, pair.fine);
+    let p = grid::at(tables::grid_of(pair.l.lattice.grid, pair.coarse), r);
+    let mut next = [NO_HAT; 128];
+    let mut last = [NO_HAT; 128];
+    let k = hats_across(nested, nn, p, &mut next, &mut last);
     let c = cell_of(gf, nn, p);
-    mean_over(c, eps, from, &hats[..k.next], &hats[128..128 + k.last])
+    mean_over(c, eps, from, &next[..k.next], &last[..k.last])
 }
 
 // The permittivity of coarse edge r of two alone, put into its place, those of the level beginning at place `to`; whether it is finite.
 pub fn averaged_row(
-    l: Lattice,
-    st: &[f64],
-    fine: Three,
-    coarse: Three,
+    nested: &NestedPair<'_>,
     nn: &[usize],
     eps: &mut [f64],
     from: usize,
     to: usize,
     r: usize,
 ) -> bool
-    requires paired_lines { PairedLines (full_lattice l st.now) fine coarse }
-    requires nn_value { nn.now ≡ tabulate (node_no (two_of (full_lattice l st.now) fine coarse)) node_count 0 }
-    requires r_bound { r < unknowns_of (coarse_grid (two_of (full_lattice l st.now) fine coarse)) }
-    requires chain_room { ChainRoom (unknowns_of (fine_grid (two_of (full_lattice l st.now) fine coarse))) (unknowns_of (coarse_grid (two_of (full_lattice l st.now) fine coarse))) from to eps.old }
-    ensures eps_after { eps.new ≡ set_number eps.old (to + r) (averaged_eps (two_of (full_lattice l st.now) fine coarse) (read_from eps.old from) r) }
-    ensures value { result ≡ finite (averaged_eps (two_of (full_lattice l st.now) fine coarse) (read_from eps.old from) r) }
+    requires nn_value { nn.now ≡ tabulate (node_no (two nested.now.pair.now)) node_count 0 }
+    requires r_bound { r < unknowns_of (coarse_grid (two nested.now.pair.now)) }
+    requires chain_room { ChainRoom (unknowns_of (fine_grid (two nested.now.pair.now))) (unknowns_of (coarse_grid (two nested.now.pair.now))) from to eps.old }
+    ensures eps_after { eps.new ≡ set_number eps.old (to + r) (averaged_eps (two nested.now.pair.now) (read_from eps.old from) r) }
+    ensures value { result ≡ finite (averaged_eps (two nested.now.pair.now) (read_from eps.old from) r) }
 {
-    let v = averaged_edge(l, st, fine, coarse, nn, eps, from, r);
+    let v = averaged_edge(nested, nn, eps, from, r);
     numbers::put(eps, to + r, v);
     v.is_finite()
 }
@@ -511,14 +501,7 @@ fn line_flagged(c: Cell, flags: &[bool], h: Hat, k: Hat) -> bool
     requires node_bound { (h.node < n_of c.grid (next_axis c.p.component)) × (k.node < n_of c.grid (last_axis c.p.component)) }
     ensures { result ≡ any_flag flags.now (line_edges c.grid c.p c.first (c.last - c.first) h k) }
 {
-    let q = through(c.p, h, k);
-    for m in c.first..c.last {
-        let e = grid::index(c.grid, grid::moved_to(q, q.component, m));
-        if flags[e] {
-            return true;
-        }
-    }
-    false
+    eps::line_flagged(c.grid, flags, through(c.p, h, k), c.first, c.last)
 }
 
 // Of the lines through each pair of hats.
@@ -540,25 +523,18 @@ fn any_over(c: Cell, flags: &[bool], next: &[Hat], last: &[Hat]) -> bool
 }
 
 // Of coarse edge r of two: whether one of the fine edges whose permittivities it reads is flagged. No other is looked at.
-pub fn averaged_flagged(
-    l: Lattice,
-    st: &[f64],
-    fine: Three,
-    coarse: Three,
-    nn: &[usize],
-    flags: &[bool],
-    r: usize,
-) -> bool
-    requires paired_lines { PairedLines (full_lattice l st.now) fine coarse }
-    requires nn_value { nn.now ≡ tabulate (node_no (two_of (full_lattice l st.now) fine coarse)) node_count 0 }
-    requires r_bound { r < unknowns_of (coarse_grid (two_of (full_lattice l st.now) fine coarse)) }
-    requires coarse_in_bounds { unknowns_of (fine_grid (two_of (full_lattice l st.now) fine coarse)) ≤ length flags.now }
-    ensures { result ≡ any_flag flags.now (averaged_reads (two_of (full_lattice l st.now) fine coarse) r) }
+pub fn averaged_flagged(nested: &NestedPair<'_>, nn: &[usize], flags: &[bool], r: usize) -> bool
+    requires nn_value { nn.now ≡ tabulate (node_no (two nested.now.pair.now)) node_count 0 }
+    requires r_bound { r < unknowns_of (coarse_grid (two nested.now.pair.now)) }
+    requires coarse_in_bounds { unknowns_of (fine_grid (two nested.now.pair.now)) ≤ length flags.now }
+    ensures { result ≡ any_flag flags.now (averaged_reads (two nested.now.pair.now) r) }
 {
-    let gf = tables::grid_of(l.grid, fine);
-    let p = grid::at(tables::grid_of(l.grid, coarse), r);
-    let mut hats = [NO_HAT; 256];
-    let k = hats_across(l, st, fine, coarse, nn, p, &mut hats);
+    let pair = nested.pair;
+    let gf = tables::grid_of(pair.l.lattice.grid, pair.fine);
+    let p = grid::at(tables::grid_of(pair.l.lattice.grid, pair.coarse), r);
+    let mut next = [NO_HAT; 128];
+    let mut last = [NO_HAT; 128];
+    let k = hats_across(nested, nn, p, &mut next, &mut last);
     let c = cell_of(gf, nn, p);
-    any_over(c, flags, &hats[..k.next], &hats[128..128 + k.last])
+    any_over(c, flags, &next[..k.next], &last[..k.last])
 }

@@ -97,6 +97,7 @@ fn fill_relation(n: usize, bloch: bool, w: usize, t: &mut [u64], at: usize)
     requires { (n ≤ 64) × (w < 6) × (at + n ≤ length t.old) }
     ensures { t.new ≡ laid t.old at (tabulate (base_word n bloch w) n 0) }
 {
+    // An index: a word is worked out from its number, and the list's items with their numbers would be no shorter.
     for i in 0..n {
         t[at + i] = base_word(n, bloch, w, i);
     }
@@ -107,6 +108,7 @@ pub fn fill_base(n: &[usize], bloch: &[bool], t: &mut [u64])
     requires { Sizes n.now bloch.now t.old }
     ensures { t.new ≡ relations_laid (base_words n.now bloch.now) 18 t.old }
 {
+    // An index: relation q is one of axis q / 6, and its words stand from place 64 q on.
     for q in 0..18 {
         let d = q / 6;
         fill_relation(n[d], bloch[d], q % 6, t, 64 * q);

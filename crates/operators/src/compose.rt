@@ -3,7 +3,7 @@
 ghost use Rattle.std.specs.Prelude.{◌≡◌, ℕ, Bool, ◌+◌, ◌<◌, ◌≤◌, length};
 ghost use Rattle.numbers.specs.Lists.{tabulate, laid, entry_at};
 ghost use Rattle.operators.specs.Bits.{gathered};
-ghost use Rattle.operators.specs.Compose.{words_at, composed_word};
+ghost use Rattle.operators.specs.Compose.{composed_word};
 
 use crate::words;
 
@@ -21,25 +21,14 @@ fn gathered<P: Fn(usize) -> bool>(p: P, list: &[u64]) -> u64
 }
 
 // turned f, then r, then g: the m words of a relation one level down.
-pub fn compose(
-    f: &[u64],
-    fat: usize,
-    r: &[u64],
-    rat: usize,
-    g: &[u64],
-    gat: usize,
-    n: usize,
-    m: usize,
-    out: &mut [u64],
-    at: usize,
-)
-    requires { (fat + n ≤ length f.now) × (rat + n ≤ length r.now) × (gat + n ≤ length g.now) × (n ≤ 64) × (m ≤ 64) × (at + m ≤ length out.old) }
-    ensures { out.new ≡ laid out.old at (tabulate (composed_word n (words_at f.now fat) (words_at r.now rat)
-        (words_at g.now gat)) m 0) }
+pub fn compose(f: &[u64], r: &[u64], g: &[u64], m: usize, out: &mut [u64], at: usize)
+    requires { (length f.now ≤ 64) × (length r.now ≡ length f.now) × (length g.now ≡ length f.now) × (m ≤ 64) × (at + m ≤ length out.old) }
+    ensures { out.new ≡ laid out.old at (tabulate (composed_word (length f.now) (entry_at f.now) (entry_at r.now) (entry_at g.now)) m 0) }
 {
+    // An index: c is a place on the coarse axis, and the bit of a word as well as the word's own place.
     for c in 0..m {
         // The places that r brings from the places k whose word in f has c, then those that g brings from these.
-        let u = gathered(move |k| words::bit(f[fat + k], c), &r[rat..rat + n]);
-        out[at + c] = gathered(move |k| words::bit(u, k), &g[gat..gat + n]);
+        let u = gathered(move |k| words::bit(f[k], c), r);
+        out[at + c] = gathered(move |k| words::bit(u, k), g);
     }
 }

@@ -6,12 +6,14 @@ ghost use Rattle.numbers.specs.Places.{number_at};
 ghost use Rattle.lattice.specs.Lattice.{full_lattice};
 ghost use Rattle.numbers.specs.Lists.{each, laid_numbers};
 ghost use Rattle.numbers.specs.Terms.{terms_in, Stored, most_rows};
-ghost use Rattle.operators.specs.Galerkin.{scaled_term, forward_terms, fine_terms, galerkin_terms, rows_of, fine_row, HasRow, HasRows, FineGiven, TurnedGiven, RowsGiven, sums_at, no_sums, diagonal_one, row_laid, Gathered, Cleared, ColumnsBelow, RowReady, RowsReady, NumbersLaid, sum_doubles};
+ghost use Rattle.operators.specs.Galerkin.{scaled_term, forward_terms, fine_terms, galerkin_terms, rows_of, fine_row, HasRow, HasRows, RowPlaces, fine_of, FineMade, FineThere, TurnedThere, TurnedGiven, RowsGiven, sums_at, no_sums, diagonal_one, row_laid, Gathered, Cleared, ColumnsBelow, RowReady, RowsReady, NumbersLaid, sum_doubles};
 
 use crate::stencil;
 use lattice::lattice::Lattice;
+use lattice::sound::Sound;
 use numbers::terms::Part;
 use numbers::{C64, lists};
+use std::ops::Range;
 
 // A sum for each column, two doubles each.
 pub const SUM_DOUBLES: usize = 24576;
@@ -30,6 +32,30 @@ pub struct Rows<'a> {
     pub starts: &'a [usize],
     pub columns: &'a [usize],
     pub values: &'a [f64],
+}
+
+impl Rows<'_> {
+    // The places of the terms of row c.
+    pub fn places(&self, c: usize) -> Range<usize>
+        requires { HasRow self.now.part self.now.starts.now self.now.columns.now self.now.values.now c }
+        ensures { RowPlaces self.now c result.start result.end }
+    {
+        let first = self.part.k + self.starts[self.part.s + c];
+        let last = self.part.k + self.starts[self.part.s + c + 1];
+        first..last
+    }
+}
+
+// What a fine row is worked out from: the lattice and its permittivities, or the lists that it stands in. Where it stands in lists nothing is asked of the
+// grid: so the lattice goes beside its list here, and not as a `Sound`.
+#[derive(Clone, Copy)]
+enum Fine<'a> {
+    Computed {
+        l: Lattice,
+        st: &'a [f64],
+        eps: &'a [f64],
+    },
+    Stored(Rows<'a>),
 }
 
 // One term, added to the sum at its column; where there is no such sum it is left out.
@@ -64,9 +90,8 @@ fn add_column(wv: C64, c: usize, p: &Rows<'_>, sums: &mut [f64])
     requires { HasRow p.now.part p.now.starts.now p.now.columns.now p.now.values.now c }
     ensures { Gathered (each (scaled_term wv) (rows_of p.now c)) sums.old sums.new }
 {
-    let first = p.part.k + p.starts[p.part.s + c];
-    let last = p.part.k + p.starts[p.part.s + c + 1];
-    add_forward(wv, p.columns, p.values, first, last, sums);
+    let at = p.places(c);
+    add_forward(wv, p.columns, p.values, at.start, at.end, sums);
 }
 
 // The terms of a fine row from place `at` on, `count` of them, each taken with weight w through the forward row of its column.
@@ -93,80 +118,63 @@ fn add_fine(
     }
 }
 
-// The same of row r of the fine operator, worked out here or read where it stands in the operator's own lists.
-fn add_row(
-    fine: FineRows,
-    l: Lattice,
-    st: &[f64],
-    eps: &[f64],
-    ostarts: &[usize],
-    ocolumns: &[usize],
-    ovalues: &[f64],
-    r: usize,
-    w: C64,
-    p: &Rows<'_>,
-    sums: &mut [f64],
-)
-    requires { FineGiven fine (full_lattice l st.now) eps.now ostarts.now ocolumns.now ovalues.now p.now.part p.now.starts.now p.now.columns.now p.now.values.now r }
-    ensures { Gathered (fine_terms
-        (fine_row fine (full_lattice l st.now) (number_at eps.now) ostarts.now ocolumns.now ovalues.now)
-        (rows_of p.now)
-        (record { column = r; number = w })) sums.old sums.new }
-{
-    match fine {
-        FineRows::Computed => {
-            let mut cs = [0usize; 30];
-            let mut xs = [0.0; 60];
-            let count = stencil::stencil_row(l, st, eps, r, &mut cs, &mut xs);
-            add_fine(w, &cs, &xs, 0, count, p, sums);
+impl<'a> Fine<'a> {
+    // The lists are those of the operator that is laid.
+    fn new(
+        fine: FineRows,
+        l: Lattice,
+        st: &'a [f64],
+        eps: &'a [f64],
+        starts: &'a [usize],
+        columns: &'a [usize],
+        values: &'a [f64],
+    ) -> Self
+        ensures { FineMade fine (full_lattice l st.now) eps.now starts.now columns.now values.now result }
+    {
+        match fine {
+            FineRows::Computed => Fine::Computed { l, st, eps },
+            FineRows::Stored(part) => Fine::Stored(Rows {
+                part,
+                starts,
+                columns,
+                values,
+            }),
         }
-        FineRows::Stored(f) => {
-            let first = ostarts[f.s + r];
-            let last = ostarts[f.s + r + 1];
-            add_fine(w, ocolumns, ovalues, f.k + first, last - first, p, sums);
+    }
+}
+
+impl Fine<'_> {
+    // The terms of fine row r, worked out here or read where they stand, each taken with w through the forward row of its column.
+    fn add_row(&self, r: usize, w: C64, p: &Rows<'_>, sums: &mut [f64])
+        requires { FineThere self.now p.now r }
+        ensures { Gathered (fine_terms (fine_of self.now) (rows_of p.now) (record { column = r; number = w })) sums.old sums.new }
+    {
+        match self {
+            Fine::Computed { l, st, eps } => {
+                let mut cs = [0usize; 30];
+                let mut xs = [0.0; 60];
+                let own = Sound { lattice: *l, st };
+                let count = stencil::stencil_row(&own, eps, r, &mut cs, &mut xs);
+                add_fine(w, &cs, &xs, 0, count, p, sums);
+            }
+            Fine::Stored(f) => {
+                let at = f.places(r);
+                add_fine(w, f.columns, f.values, at.start, at.end - at.start, p, sums);
+            }
         }
     }
 }
 
 // The terms of coarse row c, over its turned row.
-fn gather(
-    fine: FineRows,
-    l: Lattice,
-    st: &[f64],
-    eps: &[f64],
-    ostarts: &[usize],
-    ocolumns: &[usize],
-    ovalues: &[f64],
-    p: &Rows<'_>,
-    t: &Rows<'_>,
-    c: usize,
-    sums: &mut [f64],
-)
-    requires { TurnedGiven fine (full_lattice l st.now) eps.now ostarts.now ocolumns.now ovalues.now
-        p.now.part p.now.starts.now p.now.columns.now p.now.values.now t.now.part t.now.starts.now t.now.columns.now t.now.values.now c }
-    ensures { Gathered (galerkin_terms
-        (fine_row fine (full_lattice l st.now) (number_at eps.now) ostarts.now ocolumns.now ovalues.now)
-        (rows_of p.now)
-        (rows_of t.now c)) sums.old sums.new }
+fn gather(fine: &Fine<'_>, p: &Rows<'_>, t: &Rows<'_>, c: usize, sums: &mut [f64])
+    requires { TurnedThere fine.now p.now t.now c }
+    ensures { Gathered (galerkin_terms (fine_of fine.now) (rows_of p.now) (rows_of t.now c)) sums.old sums.new }
 {
-    let first = t.part.k + t.starts[t.part.s + c];
-    let last = t.part.k + t.starts[t.part.s + c + 1];
+    let at = t.places(c);
     // An index, as above.
-    for q in first..last {
+    for q in at.start..at.end {
         let w = numbers::get(t.values, q);
-        add_row(
-            fine,
-            l,
-            st,
-            eps,
-            ostarts,
-            ocolumns,
-            ovalues,
-            t.columns[q],
-            w,
-            p,
-            sums,
-        );
+        fine.add_row(t.columns[q], w, p, sums);
     }
 }
 
@@ -236,7 +244,8 @@ pub fn galerkin_row(
 {
     let at = o.k + ostarts[o.s + c];
     let count = ostarts[o.s + c + 1] - ostarts[o.s + c];
-    gather(fine, l, st, eps, ostarts, ocolumns, ovalues, p, t, c, sums);
+    let from = Fine::new(fine, l, st, eps, ostarts, ocolumns, ovalues);
+    gather(&from, p, t, c, sums);
     diagonal(t.starts, t.part.s, c, sums);
     lay_sums(ocolumns, at, count, sums, ovalues);
     clear(ocolumns, at, count, sums);

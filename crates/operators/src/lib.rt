@@ -8,6 +8,7 @@ pub mod columns;
 pub mod compose;
 pub mod galerkin;
 pub mod levels;
+pub mod nested;
 pub mod pattern;
 pub mod rediscretized;
 pub mod stencil;

@@ -4,8 +4,8 @@ ghost use Rattle.std.specs.Prelude.{◌≡◌, ◌<◌, ◌≤◌, ◌^◌, leng
 ghost use Rattle.lattice.specs.Grid.{unknowns_of, Limits};
 ghost use Rattle.lattice.specs.Lattice.{full_lattice};
 ghost use Rattle.numbers.specs.Lists.{tabulate, rows as rows_of, laid, Laid, start_of, starts_of};
-ghost use Rattle.weights.specs.TwoLevels.{two_of};
-ghost use Rattle.weights.specs.Tables.{Paired, all_slots};
+ghost use Rattle.weights.specs.Pair.{two};
+ghost use Rattle.weights.specs.Tables.{all_slots};
 ghost use Rattle.operators.specs.Levels.{pattern_row, slot_word, slot_word_no, Entries, base_relations, relations_below};
 ghost use Rattle.operators.specs.Numbered.{word_count};
 
@@ -13,14 +13,16 @@ use crate::tables::WORDS;
 use crate::{base, tables, words};
 use lattice::grid::Grid3d;
 use lattice::lattice::Lattice;
-use lattice::levels::Three;
 use lattice::{grid, neighbours};
 use numbers::lists;
+use std::array;
+use weights::pair::Pair;
 use weights::tables::SLOTS;
 
 // ---- the relations of a level
 
-// The relations of a level that takes its rows from a lattice of its own cells: level 0, and each rediscretized level. g has the cells.
+// The relations of a level that takes its rows from a lattice of its own cells: level 0, and each rediscretized level. g has the cells. The lattice's own
+// grid is not asked for here, nor in `level_columns` and `level_count`, so the lattice goes beside its list, and not as a `Sound`.
 pub fn base_relations(l: Lattice, st: &[f64], g: Grid3d) -> [u64; WORDS]
     requires { Limits g }
     ensures { result ≡ base_relations (full_lattice l st.now) g }
@@ -57,33 +59,18 @@ fn forward_words(ps: &[usize], ns: &[usize]) -> [u64; SLOTS]
     requires { Entries ps.now ns.now }
     ensures { result ≡ tabulate (slot_word_no ps.now ns.now) all_slots 0 }
 {
-    let mut f = [0u64; SLOTS];
-    for e in 0..SLOTS {
-        let q = 128 * (e / 128) + (e % 128 + 64) % 128;
-        f[e] = forward_word(ps, ns, q);
-    }
-    f
+    array::from_fn(|e| forward_word(ps, ns, 128 * (e / 128) + (e % 128 + 64) % 128))
 }
 
 // The relations one level down, between the levels whose lines are given.
-pub fn relations_below(
-    l: Lattice,
-    st: &[f64],
-    fine: Three,
-    coarse: Three,
-    t: &[u64],
-) -> [u64; WORDS]
-    requires paired { Paired (full_lattice l st.now) fine coarse }
+pub fn relations_below(pair: &Pair<'_>, t: &[u64]) -> [u64; WORDS]
     requires t_len { length t.now ≡ word_count }
-    ensures { result ≡ relations_below (two_of (full_lattice l st.now) fine coarse) t.now }
+    ensures { result ≡ relations_below (two pair.now) t.now }
 {
-    let gf = weights::tables::grid_of(l.grid, fine);
-    let gc = weights::tables::grid_of(l.grid, coarse);
-    let fs = weights::tables::value_places(fine);
-    let cs = weights::tables::value_places(coarse);
-    let ps = weights::tables::places(l, st, gf, gc, &fs, &cs);
-    let ns = weights::tables::counts(l, st, gf, gc, &fs, &cs);
-    let f = forward_words(&ps, &ns);
+    let s = weights::tables::slots_of(pair);
+    let gf = s.levels.fine;
+    let gc = s.levels.coarse;
+    let f = forward_words(&s.places, &s.counts);
     let n = [gf.nx, gf.ny, gf.nz];
     let m = [gc.nx, gc.ny, gc.nz];
     let mut u = [0u64; WORDS];

@@ -3,6 +3,7 @@
 ghost use Rattle.std.specs.Prelude.{◌≡◌, ℕ, ◌+◌, ◌*◌, ◌<◌, ◌≤◌, length, get_or};
 ghost use Rattle.numbers.specs.Complex.{no_number};
 ghost use Rattle.lattice.specs.Grid.{Limits};
+ghost use Rattle.lattice.specs.Sound.{full};
 ghost use Rattle.lattice.specs.Lattice.{full_lattice, edges_of, stretch_doubles};
 ghost use Rattle.lattice.specs.Line.{ends_of, Held};
 ghost use Rattle.lattice.specs.Stretched.{across_map, along_map};
@@ -13,6 +14,7 @@ use lattice::grid::Grid3d;
 use lattice::lattice::{Edges, Lattice, STRETCH_DOUBLES};
 use lattice::levels::Three;
 use lattice::line::Line;
+use lattice::sound::Sound;
 use lattice::{grid, line, stretched};
 use numbers::C64;
 
@@ -97,13 +99,14 @@ fn lay_axis(
 {
     let n = f.cells;
     let u = unit(g, axis, n);
+    // An index: node m's two numbers stand at two places of the list, each as two doubles.
     for m in 0..n {
         numbers::put(out, 64 * axis + m, u * node_width(e, along, f, m));
         numbers::put(out, 192 + 64 * axis + m, u * cell_length(across, f, m));
     }
 }
 
-// The lattice record of a level's lines. `requires`: a lattice within the limits, and lines of 1 to 64 cells.
+// The lattice record of a level's lines. `requires`: a grid within the limits, and lines of 1 to 64 cells; no list of stretches is needed.
 pub fn rediscretized_lattice(l: Lattice, s: Three) -> Lattice
     requires limits { Limits l.grid }
     requires held_three { HeldThree s }
@@ -134,23 +137,22 @@ pub fn rediscretized_lattice(l: Lattice, s: Three) -> Lattice
 }
 
 // Its list of stretches.
-pub fn rediscretized_stretches(l: Lattice, st: &[f64], s: Three) -> [f64; STRETCH_DOUBLES]
-    requires limits { Limits l.grid }
+pub fn rediscretized_stretches(l: &Sound<'_>, s: Three) -> [f64; STRETCH_DOUBLES]
     requires held_three { HeldThree s }
     requires tame { (Tame s.x) × (Tame s.y) × (Tame s.z) }
     ensures result_len { length result ≡ stretch_doubles }
-    ensures result_value { full_lattice (lattice_on l s) result ≡ rediscretized_lattice (full_lattice l st.now) (lines_in s) }
+    ensures result_value { full_lattice (lattice_on l.now.lattice s) result ≡ rediscretized_lattice (full l.now) (lines_in s) }
 {
     let mut out = [0.0; STRETCH_DOUBLES];
-    let g = l.grid;
-    let x = l.x;
-    let y = l.y;
-    let z = l.z;
+    let g = l.lattice.grid;
+    let x = l.lattice.x;
+    let y = l.lattice.y;
+    let z = l.lattice.z;
     lay_axis(
         g,
         x,
-        stretched::across_map(l, st, 0),
-        stretched::along_map(l, st, 0),
+        stretched::across_map(l, 0),
+        stretched::along_map(l, 0),
         s.x,
         0,
         &mut out,
@@ -158,8 +160,8 @@ pub fn rediscretized_stretches(l: Lattice, st: &[f64], s: Three) -> [f64; STRETC
     lay_axis(
         g,
         y,
-        stretched::across_map(l, st, 1),
-        stretched::along_map(l, st, 1),
+        stretched::across_map(l, 1),
+        stretched::along_map(l, 1),
         s.y,
         1,
         &mut out,
@@ -167,8 +169,8 @@ pub fn rediscretized_stretches(l: Lattice, st: &[f64], s: Three) -> [f64; STRETC
     lay_axis(
         g,
         z,
-        stretched::across_map(l, st, 2),
-        stretched::along_map(l, st, 2),
+        stretched::across_map(l, 2),
+        stretched::along_map(l, 2),
         s.z,
         2,
         &mut out,

@@ -27,18 +27,17 @@ pub fn coarsen(t: &[u64], f: &[u64], n: &[usize], m: &[usize], out: &mut [u64])
     requires { Ready t.now f.now n.now m.now out.old }
     ensures { out.new ≡ relations_laid (words_below t.now f.now n.now m.now) 18 out.old }
 {
+    // An index: relation q is one of axis q / 6, and its words stand from place 64 q on in both lists.
     for q in 0..18 {
         let d = q / 6;
         let w = q % 6;
         let c = column_no(w);
+        let fat = 64 * (2 * d + w % 2);
+        let gat = 64 * (2 * d + c);
         compose::compose(
-            f,
-            64 * (2 * d + w % 2),
-            t,
-            64 * q,
-            f,
-            64 * (2 * d + c),
-            n[d],
+            &f[fat..fat + n[d]],
+            &t[64 * q..64 * q + n[d]],
+            &f[gat..gat + n[d]],
             m[d],
             out,
             64 * q,

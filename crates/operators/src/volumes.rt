@@ -3,8 +3,8 @@
 ghost use Rattle.std.specs.Prelude.{◌≡◌, ◌&&◌, ◌+◌, ◌-◌, ◌*◌, ◌<◌, ◌≤◌, ◌^◌, length, get_or};
 ghost use Rattle.numbers.specs.Complex.{zero_number};
 ghost use Rattle.numbers.specs.Places.{set_number};
-ghost use Rattle.lattice.specs.Grid.{unknowns_of, Limits, Inside};
-ghost use Rattle.lattice.specs.Lattice.{full_lattice};
+ghost use Rattle.lattice.specs.Grid.{unknowns_of, Inside};
+ghost use Rattle.lattice.specs.Sound.{full};
 ghost use Rattle.numbers.specs.Lists.{tabulate, laid_numbers, all_finite, read_from};
 ghost use Rattle.numbers.specs.Terms.{terms_in, Stored};
 ghost use Rattle.operators.specs.Galerkin.{rows_of};
@@ -13,46 +13,43 @@ ghost use Rattle.operators.specs.Volumes.{side_of, volume_at, volume_of, weighte
 use crate::galerkin::Rows;
 use lattice::grid;
 use lattice::grid::Position;
-use lattice::lattice::Lattice;
+use lattice::sound::Sound;
 use numbers::{C64, lists};
 
 // A side of an edge's cell.
-fn side(l: Lattice, st: &[f64], p: Position, axis: usize) -> C64
-    requires limits { Limits l.grid }
-    requires inside { Inside l.grid p }
+fn side(l: &Sound<'_>, p: Position, axis: usize) -> C64
+    requires inside { Inside l.now.lattice.grid p }
     requires axis_bound { axis < 3 }
-    ensures { result ≡ side_of (full_lattice l st.now) p axis }
+    ensures { result ≡ side_of (full l.now) p axis }
 {
     let m = grid::place_on(p, axis);
-    let step = grid::step(l.grid, axis);
+    let step = grid::step(l.lattice.grid, axis);
     if axis == p.component {
-        return step * lattice::lattice::half(l, st, axis, m);
+        return step * lattice::lattice::half(l.lattice, l.st, axis, m);
     }
-    step * lattice::lattice::node(l, st, axis, m)
+    step * lattice::lattice::node(l.lattice, l.st, axis, m)
 }
 
 // The volume of edge r's cell: its sides, multiplied from (1, 0) on.
-pub fn volume(l: Lattice, st: &[f64], r: usize) -> C64
-    requires limits { Limits l.grid }
-    requires r_bound { r < unknowns_of l.grid }
-    ensures { result ≡ volume_of (full_lattice l st.now) r }
+pub fn volume(l: &Sound<'_>, r: usize) -> C64
+    requires { r < unknowns_of l.now.lattice.grid }
+    ensures { result ≡ volume_of (full l.now) r }
 {
-    let p = grid::at(l.grid, r);
-    let x = C64::one() * side(l, st, p, 0);
-    let y = x * side(l, st, p, 1);
-    y * side(l, st, p, 2)
+    let p = grid::at(l.lattice.grid, r);
+    let x = C64::one() * side(l, p, 0);
+    let y = x * side(l, p, 1);
+    y * side(l, p, 2)
 }
 
 // Those of all edges, laid over a list from place k on; whether all are finite.
-pub fn volumes(l: Lattice, st: &[f64], scaling: &mut [f64], k: usize) -> bool
-    requires limits { Limits l.grid }
-    requires k_bound { (k ≤ 2 ^ 32) × (2 * (k + unknowns_of l.grid) ≤ length scaling.old) }
-    ensures scaling_after { scaling.new ≡ laid_numbers scaling.old k (tabulate (volume_of (full_lattice l st.now)) (unknowns_of l.grid) 0) }
-    ensures value { result ≡ all_finite (tabulate (volume_of (full_lattice l st.now)) (unknowns_of l.grid) 0) }
+pub fn volumes(l: &Sound<'_>, scaling: &mut [f64], k: usize) -> bool
+    requires { (k ≤ 2 ^ 32) × (2 * (k + unknowns_of l.now.lattice.grid) ≤ length scaling.old) }
+    ensures scaling_after { scaling.new ≡ laid_numbers scaling.old k (tabulate (volume_of (full l.now)) (unknowns_of l.now.lattice.grid) 0) }
+    ensures value { result ≡ all_finite (tabulate (volume_of (full l.now)) (unknowns_of l.now.lattice.grid) 0) }
 {
-    let n = grid::unknowns(l.grid);
+    let n = grid::unknowns(l.lattice.grid);
     for r in 0..n {
-        numbers::put(scaling, k + r, volume(l, st, r));
+        numbers::put(scaling, k + r, volume(l, r));
     }
     lists::finite_numbers(scaling, k, n)
 }
@@ -95,9 +92,8 @@ pub fn share_at(t: &Rows<'_>, m: usize, n: usize, c: usize, scaling: &[f64], k: 
     requires c_lt_m { (c < m) × (k ≤ 2 ^ 32) × (2 * (k + n) ≤ length scaling.now) }
     ensures { result ≡ share_of (rows_of t.now) (read_from scaling.now k) c }
 {
-    let first = t.part.k + t.starts[t.part.s + c];
-    let last = t.part.k + t.starts[t.part.s + c + 1];
-    share(t.columns, t.values, first, last, scaling, k)
+    let at = t.places(c);
+    share(t.columns, t.values, at.start, at.end, scaling, k)
 }
 
 // The inverse share of coarse edge c alone, put into its place behind the volumes, where the inverse shares of m coarse edges begin at place `to`; whether

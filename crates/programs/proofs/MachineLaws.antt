@@ -14,7 +14,7 @@ use Rattle.programs.specs.declared.kinds.Kind.TheVariants.{Stretch, Permittivity
 use Rattle.numbers.specs.declared.C64.{C64}
 use Rattle.lattice.specs.declared.lattice.Lattice.{Lattice}
 use Rattle.store.specs.Store.{Store}
-use Rattle.store.specs.Setup.{Input, result_of, input_of, setup_of}
+use Rattle.store.specs.Setup.{Input, result_of, input_on, setup_of}
 use Rattle.store.specs.Steps.{answer_of}
 use Rattle.store.specs.Calls.{change_of}
 use Rattle.store.specs.ChangeSteps.{changed_of, change_to}
@@ -22,19 +22,19 @@ use Rattle.store.specs.declared.change.Refusal.{Refusal as ChangeRefusal}
 use Rattle.store.specs.declared.setup.Refusal.{Refusal}
 use Rattle.programs.specs.Bytes.{word32, pair_at}
 use Rattle.programs.specs.Records.{lattice_of, input_read, input_with, given_read}
-use Rattle.programs.specs.Lent.{SameLists}
-use Rattle.programs.specs.declared.feed.Lists.{Lists}
+use Rattle.store.specs.Lists.{SameLists}
+use Rattle.store.specs.declared.lists.Lists.{Lists}
 use Rattle.programs.specs.Reading.{told_by, said, answered, out_of_turn, number_read, choice_read, machine, ran, setup_run, change_run, number_run, closed_by}
 use Rattle.programs.specs.declared.reader.Begun.{Begun}
 use Rattle.programs.specs.declared.reader.Reader.{Reader}
 use Rattle.store.specs.declared.told.Told.{Told}
 use Rattle.programs.specs.declared.records.Seen.{Seen}
-use Rattle.programs.specs.declared.records.Stretches.{Stretches}
+use Rattle.lattice.specs.declared.input.Stretches.{Stretches}
 
 -- the input that the code puts together
 pub input_found : (s : Seen) (l : Stretches) {v : Lattice} {i : Input} → v ≡ lattice_of s → input_with s l ≡ i
-    → input_of v l.xn.now l.xh.now l.yn.now l.yh.now l.zn.now l.zh.now s.choice s.coarsest ≡ i
-input_found s l e f = ap (λ (v : Lattice). input_of v l.xn.now l.xh.now l.yn.now l.yh.now l.zn.now l.zh.now s.choice s.coarsest) e ∙ f
+    → input_on v l s.choice s.coarsest ≡ i
+input_found s l e f = ap (λ (v : Lattice). input_on v l s.choice s.coarsest) e ∙ f
 
 module _ (r : Reader) (o : Begun) (held : List Float) (s : Store) where
   pub setup_refused : {u : Reader} → 1 < get_or o.body 0 0 → u ≡ out_of_turn r o.start → machine u held s ≡ setup_run r o held s

@@ -4,7 +4,7 @@
 use Rattle.std.specs.Prelude.{ℕ, ◌+◌, ◌*◌, ◌^◌, ◌<◌, ◌≡◌, Bool, false, cond, Option, Some, None, Result, MatchResult, List, [], eqb, leb, ltb, length, take, drop, Float}
 use Rattle.lattice.specs.declared.grid.Grid3d.{Grid3d}
 use Rattle.lattice.specs.declared.lattice.Lattice.{Lattice}
-use Rattle.store.specs.Setup.{Input, input_of}
+use Rattle.store.specs.Setup.{Input, input_of, input_on}
 use Rattle.programs.specs.Bytes.{word16, double_at}
 use Rattle.programs.specs.declared.kinds.Kind.{Kind}
 use Rattle.programs.specs.declared.kinds.Kind.TheVariants.{Grid, Wall, Bloch, Stretch, Permittivity, Choice, Change, End}
@@ -12,7 +12,7 @@ use Rattle.programs.specs.declared.kinds.NoKind.{NoKind}
 use Rattle.programs.specs.declared.records.Seen.{Seen}
 use Rattle.programs.specs.declared.records.Stage.{Stage}
 use Rattle.programs.specs.declared.records.Stage.TheVariants.{Start, AxisX, AxisY, AxisZ, Numbers, Changes, Over}
-use Rattle.programs.specs.declared.records.Stretches.{Stretches}
+use Rattle.lattice.specs.declared.input.Stretches.{Stretches}
 
 -- ---- kinds
 
@@ -126,7 +126,7 @@ input_read s held =
 
 -- the input with these stretches
 abbrev pub input_with : Seen → Stretches → Input
-input_with s l = input_of (lattice_of s) l.xn.now l.xh.now l.yn.now l.yh.now l.zn.now l.zh.now s.choice s.coarsest
+input_with s l = input_on (lattice_of s) l s.choice s.coarsest
 
 unfoldable pub given_read : Seen → List Float → List Float
 given_read s held = cut_of held (2 * stretch_count s.grid) (2 * edge_count s.grid)

@@ -25,18 +25,8 @@ pub fn cells(r: Reader, held: &[f64]) -> Cells
     ensures { result ≡ cells_read r.seen held.now }
 {
     let s = r.seen;
-    let on_axes = records::stretches_of(s, held);
-    let found = needed::setup_needs(
-        records::lattice_of(s),
-        on_axes.xn,
-        on_axes.xh,
-        on_axes.yn,
-        on_axes.yh,
-        on_axes.zn,
-        on_axes.zh,
-        s.choice,
-        s.coarsest,
-    );
+    let on = records::stretches_of(s, held);
+    let found = needed::setup_needs(records::lattice_of(s), &on, s.choice, s.coarsest);
     match found {
         Ok(needed) => needed.cells,
         Err(_) => needed::no_cells(),

@@ -7,6 +7,7 @@ ghost use Rattle.programs.specs.Records.{grid_of, lattice_of, stretch_count, cel
 use crate::bytes;
 use crate::kinds::Kind;
 use lattice::grid::Grid3d;
+use lattice::input::Stretches;
 use lattice::lattice::{Edges, Lattice};
 use store::Choice;
 
@@ -172,16 +173,6 @@ pub fn cut(xs: &[f64], from: usize, n: usize) -> &[f64]
 }
 
 // The stretches on each axis, at nodes and at halves, out of the numbers held.
-#[derive(Clone, Copy)]
-pub struct Stretches<'a> {
-    pub xn: &'a [f64],
-    pub xh: &'a [f64],
-    pub yn: &'a [f64],
-    pub yh: &'a [f64],
-    pub zn: &'a [f64],
-    pub zh: &'a [f64],
-}
-
 #[tactic(auto, unfolding(crate::specs::Records::input_read))]
 pub fn stretches_of(s: Seen, held: &[f64]) -> Stretches<'_>
     ensures { input_with s result ≡ input_read s held.now }

@@ -2,30 +2,28 @@
 
 ghost use Rattle.std.specs.Prelude.{◌≡◌, ℕ, List, Bool, false, ◌||◌, suc, ◌+◌, ◌*◌, ◌<◌, ◌≤◌, length, get_or, set};
 ghost use Rattle.numbers.specs.Lists.{any_flag, Marked};
-ghost use Rattle.lattice.specs.Grid.{Limits, unknowns_of};
-ghost use Rattle.lattice.specs.Lattice.{full_lattice};
+ghost use Rattle.lattice.specs.Grid.{unknowns_of};
+ghost use Rattle.lattice.specs.Sound.{full};
 ghost use Rattle.weights.specs.CoarseEps.{eps_reads};
-ghost use Rattle.weights.specs.Tables.{NestedIn, eps_reads_in, node_no, node_count};
-ghost use Rattle.weights.specs.TwoLevels.{two_at, two_of, fine_grid, coarse_grid};
-ghost use Rattle.operators.specs.Averaged.{PairedLines, averaged_reads};
+ghost use Rattle.weights.specs.TwoLevels.{two_at};
+ghost use Rattle.operators.specs.Averaged.{averaged_reads};
 ghost use Rattle.operators.specs.LevelLists.{edges_on};
 ghost use Rattle.operators.specs.Levels.{lattice_at};
 ghost use Rattle.operators.specs.Stencil.{stencil_reads};
 ghost use Rattle.store.specs.FillSteps.{Relations};
+ghost use Rattle.store.specs.Hierarchy.{the_lattice};
 ghost use Rattle.store.specs.Layout.{operator_cols};
-ghost use Rattle.store.specs.Phases.{HasLines};
 ghost use Rattle.store.specs.Work.{RowsAt};
 ghost use Rattle.store.specs.ReachSteps.{Raised, RowsThere, RaisedBy};
 ghost use Rattle.store.specs.declared.Choice.TheVariants.{Galerkin};
 
-use lattice::grid::Grid3d;
-use lattice::lattice::Lattice;
-use lattice::levels::Three;
-use lattice::line::Line;
+use lattice::sound::Sound;
 use lattice::{grid, neighbours};
 use numbers::lists;
 use numbers::terms::Part;
+use operators::nested::NestedPair;
 use operators::{averaged, rediscretized, stencil};
+use store::hierarchy::Hierarchy;
 use store::{lines, relations};
 use weights::{eps, tables};
 
@@ -54,27 +52,16 @@ fn raise_each<F: Fn(usize) -> bool>(n: usize, out: &mut [bool], reads: F)
 // ---- the permittivities of a coarse level
 
 // The permittivities of level `level` + 1 that read a flagged one of level `level`.
-pub fn eps_flags(
-    l: Lattice,
-    st: &[f64],
-    lines: [Line; 36],
-    m: usize,
-    level: usize,
-    flags: &[bool],
-    out: &mut [bool],
-)
-    requires limits { Limits l.grid }
-    requires level_lt_m { (level < m) × (m ≤ 11) }
-    requires has_lines { HasLines (full_lattice l st.now) m lines }
-    requires level_in_bounds { edges_on (full_lattice l st.now) (suc level) ≤ length out.old }
-    ensures { Raised (edges_on (full_lattice l st.now) (suc level)) flags.now (eps_reads (two_at (full_lattice l st.now) level))
+pub fn eps_flags(h: &Hierarchy<'_>, level: usize, flags: &[bool], out: &mut [bool])
+    requires level_lt_m { level < h.now.m }
+    requires level_in_bounds { edges_on (the_lattice h.now) (suc level) ≤ length out.old }
+    ensures { Raised (edges_on (the_lattice h.now) (suc level)) flags.now (eps_reads (two_at (the_lattice h.now) level))
         out.old out.new }
 {
-    let fine = lines::three(lines, level);
-    let coarse = lines::three(lines, level + 1);
-    let gf = tables::grid_of(l.grid, fine);
-    let gc = tables::grid_of(l.grid, coarse);
-    let nn = tables::nodes(l, st, fine, coarse);
+    let pair = h.pair(level);
+    let gf = tables::grid_of(h.l.lattice.grid, pair.fine);
+    let gc = tables::grid_of(h.l.lattice.grid, pair.coarse);
+    let nn = tables::nodes(&pair);
     let n = grid::unknowns(gc);
     raise_each(n, out, |r: usize| eps::eps_flagged(gf, gc, &nn, flags, r));
 }
@@ -82,80 +69,62 @@ pub fn eps_flags(
 // ---- the averaged permittivities of a coarse level
 
 // The averaged permittivities of level `level` + 1 that read a flagged one of level `level`.
-pub fn averaged_flags(
-    l: Lattice,
-    st: &[f64],
-    lines: [Line; 36],
-    m: usize,
-    level: usize,
-    flags: &[bool],
-    out: &mut [bool],
-)
-    requires limits { Limits l.grid }
-    requires level_lt_m { (level < m) × (m ≤ 11) }
-    requires has_lines { HasLines (full_lattice l st.now) m lines }
-    requires level_in_bounds { (edges_on (full_lattice l st.now) level ≤ length flags.now) × (edges_on (full_lattice l st.now) (suc level) ≤ length out.old) }
-    ensures { Raised (edges_on (full_lattice l st.now) (suc level)) flags.now (averaged_reads (two_at (full_lattice l st.now) level))
+pub fn averaged_flags(h: &Hierarchy<'_>, level: usize, flags: &[bool], out: &mut [bool])
+    requires level_lt_m { level < h.now.m }
+    requires level_in_bounds { (edges_on (the_lattice h.now) level ≤ length flags.now) × (edges_on (the_lattice h.now) (suc level) ≤ length out.old) }
+    ensures { Raised (edges_on (the_lattice h.now) (suc level)) flags.now (averaged_reads (two_at (the_lattice h.now) level))
         out.old out.new }
 {
-    let fine = lines::three(lines, level);
-    let coarse = lines::three(lines, level + 1);
-    let n = lines::level_edges(l, st, lines, m, level + 1);
-    let nn = tables::nodes(l, st, fine, coarse);
+    let pair = h.pair(level);
+    let nested = NestedPair { pair: &pair };
+    let n = h.edges(level + 1);
+    let nn = tables::nodes(&pair);
     raise_each(n, out, |r: usize| {
-        averaged::averaged_flagged(l, st, fine, coarse, &nn, flags, r)
+        averaged::averaged_flagged(&nested, &nn, flags, r)
     });
 }
 
 // ---- rows of a lattice's operator
 
 // The edges that row c of the lattice's own operator reads, if edge c is flagged.
-fn lattice_row(l: Lattice, st: &[f64], flags: &[bool], c: usize, out: &mut [bool])
-    requires limits { Limits l.grid }
-    requires c_bound { c < unknowns_of l.grid }
-    requires grid_in_bounds { unknowns_of l.grid ≤ length out.old }
-    ensures { Marked (get_or flags.now c false) (stencil_reads (full_lattice l st.now) c) out.old out.new }
+fn lattice_row(l: &Sound<'_>, flags: &[bool], c: usize, out: &mut [bool])
+    requires c_bound { c < unknowns_of l.now.lattice.grid }
+    requires grid_in_bounds { unknowns_of l.now.lattice.grid ≤ length out.old }
+    ensures { Marked (get_or flags.now c false) (stencil_reads (full l.now) c) out.old out.new }
 {
     if !lists::flagged(flags, c) {
         return;
     }
-    stencil::mark_reads(l, st, c, out);
+    stencil::mark_reads(l, c, out);
 }
 
 // The rows of the lattice's own operator that read a flagged permittivity: reading goes both ways, so they are what the flagged ones' rows read.
-pub fn lattice_flags(l: Lattice, st: &[f64], flags: &[bool], out: &mut [bool])
-    requires limits { Limits l.grid }
-    requires grid_in_bounds { unknowns_of l.grid ≤ length out.old }
-    ensures { Raised (unknowns_of l.grid) flags.now (stencil_reads (full_lattice l st.now)) out.old out.new }
+pub fn lattice_flags(l: &Sound<'_>, flags: &[bool], out: &mut [bool])
+    requires { unknowns_of l.now.lattice.grid ≤ length out.old }
+    ensures { Raised (unknowns_of l.now.lattice.grid) flags.now (stencil_reads (full l.now)) out.old out.new }
 {
-    let n = grid::unknowns(l.grid);
+    let n = grid::unknowns(l.lattice.grid);
     // A loop here and one in `first_rows`: a function of both would say in its clauses what a call does to the list, which is longer than the loops.
     for c in 0..n {
-        lattice_row(l, st, flags, c, out);
+        lattice_row(l, flags, c, out);
     }
 }
 
 // The rows of the rediscretized operator of level `level` + 1 that read a flagged averaged permittivity of that level.
-pub fn rediscretized_flags(
-    l: Lattice,
-    st: &[f64],
-    lines: [Line; 36],
-    m: usize,
-    level: usize,
-    flags: &[bool],
-    out: &mut [bool],
-)
-    requires limits { Limits l.grid }
-    requires level_lt_m { (level < m) × (m ≤ 11) }
-    requires has_lines { HasLines (full_lattice l st.now) m lines }
-    requires level_in_bounds { edges_on (full_lattice l st.now) (suc level) ≤ length out.old }
-    ensures { Raised (edges_on (full_lattice l st.now) (suc level)) flags.now (stencil_reads (lattice_at (full_lattice l st.now) (suc level)))
+pub fn rediscretized_flags(h: &Hierarchy<'_>, level: usize, flags: &[bool], out: &mut [bool])
+    requires level_lt_m { level < h.now.m }
+    requires level_in_bounds { edges_on (the_lattice h.now) (suc level) ≤ length out.old }
+    ensures { Raised (edges_on (the_lattice h.now) (suc level)) flags.now (stencil_reads (lattice_at (the_lattice h.now) (suc level)))
         out.old out.new }
 {
-    let s = lines::three(lines, level + 1);
-    let own = rediscretized::rediscretized_lattice(l, s);
-    let stretches = rediscretized::rediscretized_stretches(l, st, s);
-    lattice_flags(own, &stretches, flags, out);
+    let s = h.three(level + 1);
+    let lattice = rediscretized::rediscretized_lattice(h.l.lattice, s);
+    let stretches = rediscretized::rediscretized_stretches(&h.l, s);
+    let own = Sound {
+        lattice,
+        st: &stretches,
+    };
+    lattice_flags(&own, flags, out);
 }
 
 // ---- rows by their columns
@@ -198,42 +167,39 @@ pub fn stored_flags(
 }
 
 // The columns of row c of level 0's operator, if c is flagged. u has the relations of level 0.
-fn first_row(l: Lattice, st: &[f64], u: &[u64], flags: &[bool], c: usize, out: &mut [bool])
-    requires limits { Limits l.grid }
-    requires relations { Relations (full_lattice l st.now) 0 u.now }
-    requires c_bound { c < unknowns_of l.grid }
-    requires grid_in_bounds { unknowns_of l.grid ≤ length out.old }
-    ensures { Marked (get_or flags.now c false) (operator_cols (full_lattice l st.now) Galerkin 0 c) out.old out.new }
+fn first_row(l: &Sound<'_>, u: &[u64], flags: &[bool], c: usize, out: &mut [bool])
+    requires relations { Relations (full l.now) 0 u.now }
+    requires c_bound { c < unknowns_of l.now.lattice.grid }
+    requires grid_in_bounds { unknowns_of l.now.lattice.grid ≤ length out.old }
+    ensures { Marked (get_or flags.now c false) (operator_cols (full l.now) Galerkin 0 c) out.old out.new }
 {
     if !lists::flagged(flags, c) {
         return;
     }
-    let p = grid::at(l.grid, c);
-    let fixed = neighbours::fixed_at(l, st, p);
+    let p = grid::at(l.lattice.grid, c);
+    let fixed = neighbours::fixed_at(l.lattice, l.st, p);
     let mut cs = [0usize; 30];
-    let n = operators::tables::row_columns(u, l.grid, fixed, c, p, &mut cs, 0);
+    let n = operators::tables::row_columns(u, l.lattice.grid, fixed, c, p, &mut cs, 0);
     lists::mark_each(out, &cs, n);
 }
 
-fn first_rows(l: Lattice, st: &[f64], u: &[u64], flags: &[bool], out: &mut [bool])
-    requires limits { Limits l.grid }
-    requires relations { Relations (full_lattice l st.now) 0 u.now }
-    requires grid_in_bounds { unknowns_of l.grid ≤ length out.old }
-    ensures { Raised (unknowns_of l.grid) flags.now (operator_cols (full_lattice l st.now) Galerkin 0) out.old out.new }
+fn first_rows(l: &Sound<'_>, u: &[u64], flags: &[bool], out: &mut [bool])
+    requires relations { Relations (full l.now) 0 u.now }
+    requires grid_in_bounds { unknowns_of l.now.lattice.grid ≤ length out.old }
+    ensures { Raised (unknowns_of l.now.lattice.grid) flags.now (operator_cols (full l.now) Galerkin 0) out.old out.new }
 {
-    let n = grid::unknowns(l.grid);
+    let n = grid::unknowns(l.lattice.grid);
     for c in 0..n {
-        first_row(l, st, u, flags, c, out);
+        first_row(l, u, flags, c, out);
     }
 }
 
 // The rows of level 0's operator that name a flagged column. They are not stored, so their columns come from the lattice; naming goes both ways,
 // so they are the columns of the flagged rows.
-pub fn first_flags(l: Lattice, st: &[f64], flags: &[bool], out: &mut [bool])
-    requires limits { Limits l.grid }
-    requires grid_in_bounds { unknowns_of l.grid ≤ length out.old }
-    ensures { Raised (unknowns_of l.grid) flags.now (operator_cols (full_lattice l st.now) Galerkin 0) out.old out.new }
+pub fn first_flags(l: &Sound<'_>, flags: &[bool], out: &mut [bool])
+    requires { unknowns_of l.now.lattice.grid ≤ length out.old }
+    ensures { Raised (unknowns_of l.now.lattice.grid) flags.now (operator_cols (full l.now) Galerkin 0) out.old out.new }
 {
-    let u = relations::first_relations(l, st);
-    first_rows(l, st, &u, flags, out);
+    let u = relations::first_relations(l);
+    first_rows(l, &u, flags, out);
 }

@@ -1,24 +1,26 @@
 // The rows that a change of one permittivity of level 0 reaches, as a bit for each row of the store: from the structure alone, level by level.
 
 ghost use Rattle.std.specs.Prelude.{◌≡◌, cond, suc, ◌+◌, ◌*◌, ◌<◌, ◌≤◌, ◌^◌, eqb, length, get_or, replicate};
-ghost use Rattle.lattice.specs.Grid.{Limits, unknowns_of};
-ghost use Rattle.lattice.specs.Lattice.{full_lattice};
+ghost use Rattle.lattice.specs.Grid.{unknowns_of};
+ghost use Rattle.lattice.specs.Sound.{full};
 ghost use Rattle.operators.specs.LevelLists.{edges_on};
+ghost use Rattle.store.specs.Hierarchy.{the_lattice};
 ghost use Rattle.store.specs.Layout.{turned_cols, operator_cols};
 ghost use Rattle.store.specs.Parts.{FlagsOf};
-ghost use Rattle.store.specs.Phases.{HasLines};
 ghost use Rattle.store.specs.PhaseSteps.{behind_of};
 ghost use Rattle.store.specs.Reach.{hit};
 ghost use Rattle.store.specs.ReachSteps.{Raised, RowsHeld, BitRaised, BitsRaised, flag_words, HitsLong, FirstHits, FirstRaised, TransferRaised, OperatorRaised, LevelRaised, TransferBits, LevelBits, SoleBits, TransferHeld, OperatorHeld, LevelEnds, parts_at};
-ghost use Rattle.store.specs.Renewed.{Shaped, fixed};
+ghost use Rattle.store.specs.Lists.{fixed_of};
+ghost use Rattle.store.specs.Renewed.{Shaped};
 ghost use Rattle.store.specs.declared.Choice.TheVariants.{Galerkin, Rediscretized};
 
 use crate::flags;
-use lattice::lattice::Lattice;
-use lattice::line::Line;
+use lattice::sound::Sound;
 use numbers::terms::Part;
 use operators::words;
 use store::change::{EDGES, Hits, LevelParts};
+use store::hierarchy::Hierarchy;
+use store::lists::Structure;
 use store::{Choice, lines, needs};
 
 // ---- bits
@@ -48,73 +50,78 @@ fn raise_bits(flags: &mut [u64], base: usize, n: usize, list: &[bool]) -> usize
 
 // The bits of the permittivities of a level of k edges, of its averaged ones, `only` of them, and of the n forward and k turned rows, from `base` on. The place
 // behind them. `requires`: flags for all edges, and room.
-fn transfer_bits(only: usize, n: usize, k: usize, base: usize, h: &Hits, flags: &mut [u64]) -> usize
-    requires hits_long { HitsLong h.now }
+fn transfer_bits(
+    only: usize,
+    n: usize,
+    k: usize,
+    base: usize,
+    hits: &Hits,
+    flags: &mut [u64],
+) -> usize
+    requires hits_long { HitsLong hits.now }
     requires n_bound { (n ≤ 12288) × (k ≤ 12288) × (only ≤ 12288) × (base ≤ 2 ^ 32) × (base + 49152 ≤ 64 * length flags.old) }
-    ensures { TransferBits base k only n h.now flags.old flags.new result }
+    ensures { TransferBits base k only n hits.now flags.old flags.new result }
 {
-    let mut at = raise_bits(flags, base, k, &h.eps);
-    at = raise_bits(flags, at, only, &h.averaged);
-    at = raise_bits(flags, at, n, &h.forward);
-    raise_bits(flags, at, k, &h.turned)
+    let mut at = raise_bits(flags, base, k, &hits.eps);
+    at = raise_bits(flags, at, only, &hits.averaged);
+    at = raise_bits(flags, at, n, &hits.forward);
+    raise_bits(flags, at, k, &hits.turned)
 }
 
 // The bits of a level of k edges whose finer one has n, from `base` on: no volume is ever reached, a share where its turned row is. The place behind them.
-fn level_bits(choice: Choice, n: usize, k: usize, base: usize, h: &Hits, flags: &mut [u64]) -> usize
-    requires hits_long { HitsLong h.now }
+fn level_bits(
+    choice: Choice,
+    n: usize,
+    k: usize,
+    base: usize,
+    hits: &Hits,
+    flags: &mut [u64],
+) -> usize
+    requires hits_long { HitsLong hits.now }
     requires n_bound { (n ≤ 12288) × (k ≤ 12288) × (base ≤ 2 ^ 32) × (base + 86016 ≤ 64 * length flags.old) }
-    ensures { LevelBits choice n k base h.now flags.old flags.new result }
+    ensures { LevelBits choice n k base hits.now flags.old flags.new result }
 {
     let only = needs::only(choice, k);
     let volumes = needs::only(choice, n);
-    let mut at = transfer_bits(only, n, k, base, h, flags);
-    at = raise_bits(flags, at + volumes, only, &h.turned);
-    raise_bits(flags, at, k, &h.operator)
+    let mut at = transfer_bits(only, n, k, base, hits, flags);
+    at = raise_bits(flags, at + volumes, only, &hits.turned);
+    raise_bits(flags, at, k, &hits.operator)
 }
 
 // The bits of part 0, the operator's rows of a level that is the only one. The place behind them.
-fn sole_bits(m: usize, n: usize, h: &Hits, flags: &mut [u64]) -> usize
-    requires hits_long { HitsLong h.now }
+fn sole_bits(m: usize, n: usize, hits: &Hits, flags: &mut [u64]) -> usize
+    requires hits_long { HitsLong hits.now }
     requires n_bound { (n ≤ 12288) × (12288 ≤ 64 * length flags.old) }
-    ensures { SoleBits m n h.now flags.old flags.new result }
+    ensures { SoleBits m n hits.now flags.old flags.new result }
 {
     if m > 0 {
         return 0;
     }
-    raise_bits(flags, 0, n, &h.operator)
+    raise_bits(flags, 0, n, &hits.operator)
 }
 
 // ---- the flags of a level
 
 // Raises those of level 0's operator, unless neither the next level's come from them nor they are stored.
-fn first_operator(
-    choice: Choice,
-    l: Lattice,
-    st: &[f64],
-    m: usize,
-    flags: &[bool],
-    out: &mut [bool],
-)
-    requires limits { Limits l.grid }
-    requires grid_in_bounds { unknowns_of l.grid ≤ length out.old }
-    ensures { FirstRaised (full_lattice l st.now) choice m flags.now out.old out.new }
+fn first_operator(choice: Choice, l: &Sound<'_>, m: usize, flags: &[bool], out: &mut [bool])
+    requires { unknowns_of l.now.lattice.grid ≤ length out.old }
+    ensures { FirstRaised (full l.now) choice m flags.now out.old out.new }
 {
     if needs::only(choice, m) > 0 {
         return;
     }
-    flags::lattice_flags(l, st, flags, out);
+    flags::lattice_flags(l, flags, out);
 }
 
 // Those of level 0 once the permittivity of `edge` is changed.
-fn first_hits(choice: Choice, l: Lattice, st: &[f64], m: usize, edge: usize) -> Hits
-    requires limits { Limits l.grid }
-    requires edge_bound { edge < edges_on (full_lattice l st.now) 0 }
-    ensures { FirstHits (full_lattice l st.now) edge choice m result }
+fn first_hits(choice: Choice, l: &Sound<'_>, m: usize, edge: usize) -> Hits
+    requires { edge < edges_on (full l.now) 0 }
+    ensures { FirstHits (full l.now) edge choice m result }
 {
     let mut eps = [false; EDGES];
     flags::raise(&mut eps, edge, true);
     let mut operator = [false; EDGES];
-    first_operator(choice, l, st, m, &eps, &mut operator);
+    first_operator(choice, l, m, &eps, &mut operator);
     let averaged = eps;
     let forward = [false; EDGES];
     let turned = [false; EDGES];
@@ -129,41 +136,34 @@ fn first_hits(choice: Choice, l: Lattice, st: &[f64], m: usize, edge: usize) -> 
 
 // Those of the transfer from level `level` + 1 to `level`, from the permittivities of level `level`; the others are left.
 // Every fine permittivity that a forward row reads is read by the permittivity of one of its columns, so the columns alone tell which forward rows are reached.
-fn transfer_hits(
-    l: Lattice,
-    st: &[f64],
-    lines: [Line; 36],
-    m: usize,
-    level: usize,
-    a: LevelParts,
-    starts: &[usize],
-    columns: &[usize],
-    tstarts: &[usize],
-    tcolumns: &[usize],
-    h: &mut Hits,
-)
-    requires limits { Limits l.grid }
-    requires level_lt_m { (level < m) × (m ≤ 11) }
-    requires has_lines { HasLines (full_lattice l st.now) m lines }
-    requires hits_long { HitsLong h.old }
-    requires transfer_held { TransferHeld (full_lattice l st.now) level a starts.now columns.now tstarts.now tcolumns.now }
-    ensures { TransferRaised (full_lattice l st.now) level h.old h.new }
+fn transfer_hits(h: &Hierarchy<'_>, level: usize, a: LevelParts, s: &Structure<'_>, hits: &mut Hits)
+    requires level_lt_m { level < h.now.m }
+    requires hits_long { HitsLong hits.old }
+    requires transfer_held { TransferHeld (the_lattice h.now) level a s.now.starts.now s.now.columns.now s.now.tstarts.now s.now.tcolumns.now }
+    ensures { TransferRaised (the_lattice h.now) level hits.old hits.new }
 {
-    let n = lines::level_edges(l, st, lines, m, level);
-    let k = lines::level_edges(l, st, lines, m, level + 1);
+    let n = h.edges(level);
+    let k = h.edges(level + 1);
     let mut eps = [false; EDGES];
-    flags::eps_flags(l, st, lines, m, level, &h.eps, &mut eps);
-    h.eps = eps;
-    h.forward = [false; EDGES];
-    flags::stored_flags(a.forward, n, starts, columns, &h.eps, &mut h.forward);
-    h.turned = [false; EDGES];
-    flags::stored_flags(a.turned, k, tstarts, tcolumns, &h.forward, &mut h.turned);
+    flags::eps_flags(h, level, &hits.eps, &mut eps);
+    hits.eps = eps;
+    hits.forward = [false; EDGES];
+    flags::stored_flags(
+        a.forward,
+        n,
+        s.starts,
+        s.columns,
+        &hits.eps,
+        &mut hits.forward,
+    );
+    hits.turned = [false; EDGES];
+    let t = a.turned;
+    flags::stored_flags(t, k, s.tstarts, s.tcolumns, &hits.forward, &mut hits.turned);
 }
 
 // Raises the flags of the n rows of level `level`'s operator that name a flagged column. Level 0's are not stored, the others stand from o on.
 fn lead_flags(
-    l: Lattice,
-    st: &[f64],
+    l: &Sound<'_>,
     level: usize,
     o: Part,
     n: usize,
@@ -172,134 +172,100 @@ fn lead_flags(
     flags: &[bool],
     out: &mut [bool],
 )
-    requires limits { Limits l.grid }
-    requires operator_held { OperatorHeld (full_lattice l st.now) Galerkin level o ostarts.now ocolumns.now }
-    requires n_value { (n ≡ edges_on (full_lattice l st.now) level) × (n ≤ length out.old) }
-    ensures { Raised n flags.now (operator_cols (full_lattice l st.now) Galerkin level) out.old out.new }
+    requires operator_held { OperatorHeld (full l.now) Galerkin level o ostarts.now ocolumns.now }
+    requires n_value { (n ≡ edges_on (full l.now) level) × (n ≤ length out.old) }
+    ensures { Raised n flags.now (operator_cols (full l.now) Galerkin level) out.old out.new }
 {
     if level == 0 {
-        flags::first_flags(l, st, flags, out);
+        flags::first_flags(l, flags, out);
         return;
     }
     flags::stored_flags(o, n, ostarts, ocolumns, flags, out);
 }
 
 // The rows of Galerkin's operator of level `level` + 1: those whose turned row names a fine row that is reached or names a forward row that is.
-fn galerkin_hits(
-    l: Lattice,
-    st: &[f64],
-    lines: [Line; 36],
-    m: usize,
-    level: usize,
-    a: LevelParts,
-    tstarts: &[usize],
-    tcolumns: &[usize],
-    ostarts: &[usize],
-    ocolumns: &[usize],
-    h: &mut Hits,
-)
-    requires limits { Limits l.grid }
-    requires level_lt_m { (level < m) × (m ≤ 11) }
-    requires has_lines { HasLines (full_lattice l st.now) m lines }
-    requires hits_long { HitsLong h.old }
-    requires rows_held { RowsHeld (turned_cols (full_lattice l st.now) level) (edges_on (full_lattice l st.now) (suc level)) a.turned tstarts.now tcolumns.now }
-    requires operator_held { OperatorHeld (full_lattice l st.now) Galerkin level a.operator ostarts.now ocolumns.now }
-    ensures { OperatorRaised (full_lattice l st.now) Galerkin level h.old h.new }
+fn galerkin_hits(h: &Hierarchy<'_>, level: usize, a: LevelParts, s: &Structure<'_>, hits: &mut Hits)
+    requires level_lt_m { level < h.now.m }
+    requires hits_long { HitsLong hits.old }
+    requires rows_held { RowsHeld (turned_cols (the_lattice h.now) level) (edges_on (the_lattice h.now) (suc level)) a.turned s.now.tstarts.now s.now.tcolumns.now }
+    requires operator_held { OperatorHeld (the_lattice h.now) Galerkin level a.operator s.now.ostarts.now s.now.ocolumns.now }
+    ensures { OperatorRaised (the_lattice h.now) Galerkin level hits.old hits.new }
 {
-    let n = lines::level_edges(l, st, lines, m, level);
-    let k = lines::level_edges(l, st, lines, m, level + 1);
-    let mut leads = h.operator;
+    let n = h.edges(level);
+    let k = h.edges(level + 1);
+    let mut leads = hits.operator;
     lead_flags(
-        l, st, level, a.operator, n, ostarts, ocolumns, &h.forward, &mut leads,
+        &h.l,
+        level,
+        a.operator,
+        n,
+        s.ostarts,
+        s.ocolumns,
+        &hits.forward,
+        &mut leads,
     );
-    h.operator = [false; EDGES];
-    flags::stored_flags(a.turned, k, tstarts, tcolumns, &leads, &mut h.operator);
+    hits.operator = [false; EDGES];
+    flags::stored_flags(
+        a.turned,
+        k,
+        s.tstarts,
+        s.tcolumns,
+        &leads,
+        &mut hits.operator,
+    );
 }
 
 // The averaged permittivities and the rows of the rediscretized operator of level `level` + 1.
-fn rediscretized_hits(
-    l: Lattice,
-    st: &[f64],
-    lines: [Line; 36],
-    m: usize,
-    level: usize,
-    h: &mut Hits,
-)
-    requires limits { Limits l.grid }
-    requires level_lt_m { (level < m) × (m ≤ 11) }
-    requires has_lines { HasLines (full_lattice l st.now) m lines }
-    requires hits_long { HitsLong h.old }
-    ensures { OperatorRaised (full_lattice l st.now) Rediscretized level h.old h.new }
+fn rediscretized_hits(h: &Hierarchy<'_>, level: usize, hits: &mut Hits)
+    requires level_lt_m { level < h.now.m }
+    requires hits_long { HitsLong hits.old }
+    ensures { OperatorRaised (the_lattice h.now) Rediscretized level hits.old hits.new }
 {
     let mut averaged = [false; EDGES];
-    flags::averaged_flags(l, st, lines, m, level, &h.averaged, &mut averaged);
-    h.averaged = averaged;
-    h.operator = [false; EDGES];
-    flags::rediscretized_flags(l, st, lines, m, level, &h.averaged, &mut h.operator);
+    flags::averaged_flags(h, level, &hits.averaged, &mut averaged);
+    hits.averaged = averaged;
+    hits.operator = [false; EDGES];
+    flags::rediscretized_flags(h, level, &hits.averaged, &mut hits.operator);
 }
 
 // Either of them.
 fn operator_hits(
     choice: Choice,
-    l: Lattice,
-    st: &[f64],
-    lines: [Line; 36],
-    m: usize,
+    h: &Hierarchy<'_>,
     level: usize,
     a: LevelParts,
-    tstarts: &[usize],
-    tcolumns: &[usize],
-    ostarts: &[usize],
-    ocolumns: &[usize],
-    h: &mut Hits,
+    s: &Structure<'_>,
+    hits: &mut Hits,
 )
-    requires limits { Limits l.grid }
-    requires level_lt_m { (level < m) × (m ≤ 11) }
-    requires has_lines { HasLines (full_lattice l st.now) m lines }
-    requires hits_long { HitsLong h.old }
-    requires rows_held { RowsHeld (turned_cols (full_lattice l st.now) level) (edges_on (full_lattice l st.now) (suc level)) a.turned tstarts.now tcolumns.now }
-    requires operator_held { OperatorHeld (full_lattice l st.now) choice level a.operator ostarts.now ocolumns.now }
-    ensures { OperatorRaised (full_lattice l st.now) choice level h.old h.new }
+    requires level_lt_m { level < h.now.m }
+    requires hits_long { HitsLong hits.old }
+    requires rows_held { RowsHeld (turned_cols (the_lattice h.now) level) (edges_on (the_lattice h.now) (suc level)) a.turned s.now.tstarts.now s.now.tcolumns.now }
+    requires operator_held { OperatorHeld (the_lattice h.now) choice level a.operator s.now.ostarts.now s.now.ocolumns.now }
+    ensures { OperatorRaised (the_lattice h.now) choice level hits.old hits.new }
 {
     match choice {
-        Choice::Galerkin => galerkin_hits(
-            l, st, lines, m, level, a, tstarts, tcolumns, ostarts, ocolumns, h,
-        ),
-        Choice::Rediscretized => rediscretized_hits(l, st, lines, m, level, h),
+        Choice::Galerkin => galerkin_hits(h, level, a, s, hits),
+        Choice::Rediscretized => rediscretized_hits(h, level, hits),
     }
 }
 
 // All flags of level `level` + 1, from those of level `level`, whose rows and those of the transfer stand in the lists.
 fn level_hits(
     choice: Choice,
-    l: Lattice,
-    st: &[f64],
-    lines: [Line; 36],
-    m: usize,
+    h: &Hierarchy<'_>,
     level: usize,
     a: LevelParts,
-    starts: &[usize],
-    columns: &[usize],
-    tstarts: &[usize],
-    tcolumns: &[usize],
-    ostarts: &[usize],
-    ocolumns: &[usize],
-    h: &mut Hits,
+    s: &Structure<'_>,
+    hits: &mut Hits,
 )
-    requires limits { Limits l.grid }
-    requires level_lt_m { (level < m) × (m ≤ 11) }
-    requires has_lines { HasLines (full_lattice l st.now) m lines }
-    requires hits_long { HitsLong h.old }
-    requires transfer_held { TransferHeld (full_lattice l st.now) level a starts.now columns.now tstarts.now tcolumns.now }
-    requires operator_held { OperatorHeld (full_lattice l st.now) choice level a.operator ostarts.now ocolumns.now }
-    ensures { LevelRaised (full_lattice l st.now) choice level h.old h.new }
+    requires level_lt_m { level < h.now.m }
+    requires hits_long { HitsLong hits.old }
+    requires transfer_held { TransferHeld (the_lattice h.now) level a s.now.starts.now s.now.columns.now s.now.tstarts.now s.now.tcolumns.now }
+    requires operator_held { OperatorHeld (the_lattice h.now) choice level a.operator s.now.ostarts.now s.now.ocolumns.now }
+    ensures { LevelRaised (the_lattice h.now) choice level hits.old hits.new }
 {
-    transfer_hits(
-        l, st, lines, m, level, a, starts, columns, tstarts, tcolumns, h,
-    );
-    operator_hits(
-        choice, l, st, lines, m, level, a, tstarts, tcolumns, ostarts, ocolumns, h,
-    );
+    transfer_hits(h, level, a, s, hits);
+    operator_hits(choice, h, level, a, s, hits);
 }
 
 // ---- where the rows stand
@@ -315,31 +281,25 @@ fn next_operator(level: usize, o: Part, n: usize, ostarts: &[usize]) -> Part
     lines::behind(o, n, ostarts)
 }
 
-// The parts behind those of level `level`, whose rows' starts stand in the lists.
+// The parts behind those of level `level`, whose rows' starts stand in the lists. Not `store::transfers::next_offsets`: a setup, which uses it, hasn't yet the
+// starts of the turned rows and counts the permittivities too.
 fn next_parts(
     choice: Choice,
-    l: Lattice,
-    st: &[f64],
-    lines: [Line; 36],
-    m: usize,
+    h: &Hierarchy<'_>,
     level: usize,
     a: LevelParts,
-    starts: &[usize],
-    tstarts: &[usize],
-    ostarts: &[usize],
+    s: &Structure<'_>,
 ) -> LevelParts
-    requires limits { Limits l.grid }
-    requires level_lt_m { (level < m) × (m ≤ 11) }
-    requires has_lines { HasLines (full_lattice l st.now) m lines }
-    requires a_value { a ≡ parts_at (full_lattice l st.now) choice m level }
-    requires level_ends { LevelEnds (full_lattice l st.now) choice level a starts.now tstarts.now ostarts.now }
-    ensures { result ≡ parts_at (full_lattice l st.now) choice m (suc level) }
+    requires level_lt_m { level < h.now.m }
+    requires a_value { a ≡ parts_at (the_lattice h.now) choice h.now.m level }
+    requires level_ends { LevelEnds (the_lattice h.now) choice level a s.now.starts.now s.now.tstarts.now s.now.ostarts.now }
+    ensures { result ≡ parts_at (the_lattice h.now) choice h.now.m (suc level) }
 {
-    let n = lines::level_edges(l, st, lines, m, level);
-    let k = lines::level_edges(l, st, lines, m, level + 1);
-    let forward = lines::behind(a.forward, n, starts);
-    let turned = lines::behind(a.turned, k, tstarts);
-    let operator = next_operator(level, a.operator, n, ostarts);
+    let n = h.edges(level);
+    let k = h.edges(level + 1);
+    let forward = lines::behind(a.forward, n, s.starts);
+    let turned = lines::behind(a.turned, k, s.tstarts);
+    let operator = next_operator(level, a.operator, n, s.ostarts);
     LevelParts {
         forward,
         turned,
@@ -349,48 +309,34 @@ fn next_parts(
 
 // ---- all levels
 
-// The bits of exactly the rows that a change of the permittivity of `edge` reaches, in flags that are zero. `requires`: a lattice within the limits, the lines of
-// its levels, and starts and columns that are the lattice's.
+// The bits of exactly the rows that a change of the permittivity of `edge` reaches, in flags that are zero. `requires`: starts and columns that are the
+// lattice's.
 pub fn raise_flags(
     choice: Choice,
-    l: Lattice,
-    st: &[f64],
-    lines: [Line; 36],
-    m: usize,
+    h: &Hierarchy<'_>,
     edge: usize,
-    starts: &[usize],
-    columns: &[usize],
-    tstarts: &[usize],
-    tcolumns: &[usize],
-    ostarts: &[usize],
-    ocolumns: &[usize],
+    s: &Structure<'_>,
     flags: &mut [u64],
 )
-    requires limits { Limits l.grid }
-    requires m_bound { m ≤ 11 }
-    requires has_lines { HasLines (full_lattice l st.now) m lines }
-    requires shaped { Shaped (full_lattice l st.now) choice m (fixed starts.now columns.now tstarts.now tcolumns.now ostarts.now ocolumns.now) }
-    requires edge_bound { edge < edges_on (full_lattice l st.now) 0 }
+    requires shaped { Shaped (the_lattice h.now) choice h.now.m (fixed_of s.now) }
+    requires edge_bound { edge < edges_on (the_lattice h.now) 0 }
     requires flags_value { flags.old ≡ replicate flag_words 0 }
-    ensures { FlagsOf (full_lattice l st.now) choice m (hit (full_lattice l st.now) edge choice) flags.new }
+    ensures { FlagsOf (the_lattice h.now) choice h.now.m (hit (the_lattice h.now) edge choice) flags.new }
 {
-    let first = lines::level_edges(l, st, lines, m, 0);
-    let mut h = first_hits(choice, l, st, m, edge);
-    let mut base = sole_bits(m, first, &h, flags);
+    let first = h.edges(0);
+    let mut hits = first_hits(choice, &h.l, h.m, edge);
+    let mut base = sole_bits(h.m, first, &hits, flags);
     let start = Part { s: 0, k: 0 };
     let mut a = LevelParts {
         forward: start,
         turned: start,
         operator: start,
     };
-    for level in 0..m {
-        let n = lines::level_edges(l, st, lines, m, level);
-        let k = lines::level_edges(l, st, lines, m, level + 1);
-        level_hits(
-            choice, l, st, lines, m, level, a, starts, columns, tstarts, tcolumns, ostarts,
-            ocolumns, &mut h,
-        );
-        base = level_bits(choice, n, k, base, &h, flags);
-        a = next_parts(choice, l, st, lines, m, level, a, starts, tstarts, ostarts);
+    for level in 0..h.m {
+        let n = h.edges(level);
+        let k = h.edges(level + 1);
+        level_hits(choice, h, level, a, s, &mut hits);
+        base = level_bits(choice, n, k, base, &hits, flags);
+        a = next_parts(choice, h, level, a, s);
     }
 }

@@ -10,6 +10,7 @@ pub mod parts;
 pub mod renew_operator;
 pub mod renew_transfer;
 pub mod shape;
+pub mod walk;
 
 // The level of the first row that has a number that is not finite.
 #[derive(Clone, Copy, PartialEq, Eq, Debug)]

@@ -1,85 +1,78 @@
 // The rows of a store whose flags are set, worked out anew in the lent lists: those of a level that is the only one, or transfer by transfer, in the order in
 // which a setup works them out, up to the first that has a number that is not finite.
 
-ghost use Rattle.std.specs.Prelude.{◌≡◌, suc, ◌+◌, ◌*◌, ◌<◌, ◌≤◌, length};
-ghost use Rattle.lattice.specs.Grid.{Limits};
-ghost use Rattle.lattice.specs.Lattice.{full_lattice};
+ghost use Rattle.store.specs.Hierarchy.{the_lattice};
+ghost use Rattle.std.specs.Prelude.{◌≡◌, suc, ◌+◌, ◌*◌, ◌<◌, ◌≤◌, length, get_or};
 ghost use Rattle.operators.specs.LevelLists.{edges_on};
-ghost use Rattle.store.specs.Layout.{forward_cols, starts_off, eps_need, operator_off, averaged_off, scale_off};
-ghost use Rattle.store.specs.Phases.{HasLines};
-ghost use Rattle.store.specs.FillSteps.{offsets_at};
+ghost use Rattle.store.specs.Layout.{forward_cols, forward_count, starts_off, eps_need, operator_off, averaged_off, scale_off};
 ghost use Rattle.store.specs.Parts.{part_off, part_count, flagged_rows};
-ghost use Rattle.store.specs.Renewed.{fixed, five, Shaped, FiveRoom, Renewed};
+ghost use Rattle.store.specs.Lists.{fixed_of, five_of, SameNumbers};
+ghost use Rattle.store.specs.Renewed.{Shaped, FiveRoom, Renewed};
 ghost use Rattle.store.specs.Flagged.{RenewedIn, with_eps, StartsAt, TurnedReady};
 ghost use Rattle.store.specs.RenewSteps.{flagged_some, NoVolumes, fine_of, OperatorStarts, TurnedRows};
 ghost use Rattle.store.specs.RenewLevels.{standing_at, WeightRoom, WeightsRenewed, ScaledRenewed};
 ghost use Rattle.store.specs.declared.Choice.TheVariants.{Rediscretized};
 ghost use Rattle.renew.specs.Codes.{code_of};
+ghost use Rattle.renew.specs.Long.{SameLong};
 
 use crate::{NotFinite, renew_operator, renew_transfer};
-use lattice::lattice::Lattice;
-use lattice::line::Line;
 use numbers::terms::Part;
 use operators::galerkin::FineRows;
 use store::change::Standing;
-use store::transfers::Offsets;
+use store::hierarchy::Hierarchy;
+use store::lists::{Numbers, Structure};
 use store::{Choice, lines, needs, rediscretized_levels, transfers};
 
 // ---- where the parts of a transfer begin
 
 // Those of the first transfer.
-fn first_standing(choice: Choice, l: Lattice, st: &[f64], lines: [Line; 36], m: usize) -> Standing
-    requires limits { Limits l.grid }
-    requires m_nonzero { (0 < m) × (m ≤ 11) }
-    requires has_lines { HasLines (full_lattice l st.now) m lines }
-    ensures { result ≡ standing_at (full_lattice l st.now) choice m 0 }
+fn first_standing(choice: Choice, h: &Hierarchy<'_>) -> Standing
+    requires { 0 < h.now.m }
+    ensures { result ≡ standing_at (the_lattice h.now) choice h.now.m 0 }
 {
-    let to = rediscretized_levels::chain_length(l, st, lines, m);
+    let o = transfers::first_offsets(h);
+    let to = rediscretized_levels::chain_length(h);
     Standing {
+        o,
         base: 0,
         from: 0,
         to,
         scale: 0,
-        s: 0,
-        k: 0,
+        operator: Part { s: 0, k: 0 },
     }
 }
 
-// Those of the next one: the starts of this one's coarse operator stand in the list.
+// Those of the next one: the starts of this one's forward rows and of its coarse operator stand in the lists.
 fn next_standing(
     choice: Choice,
-    l: Lattice,
-    st: &[f64],
-    lines: [Line; 36],
-    m: usize,
+    h: &Hierarchy<'_>,
     level: usize,
     w: Standing,
-    ostarts: &[usize],
+    s: &Structure<'_>,
 ) -> Standing
-    requires limits { Limits l.grid }
-    requires level_lt_m { (level < m) × (m ≤ 11) }
-    requires has_lines { HasLines (full_lattice l st.now) m lines }
-    requires w_value { w ≡ standing_at (full_lattice l st.now) choice m level }
-    requires operator_starts { OperatorStarts (full_lattice l st.now) choice m (suc level) (record { s = w.s; k = w.k }) ostarts.now }
-    ensures { result ≡ standing_at (full_lattice l st.now) choice m (suc level) }
+    requires level_lt_m { level < h.now.m }
+    requires w_value { w ≡ standing_at (the_lattice h.now) choice h.now.m level }
+    requires operator_starts { OperatorStarts (the_lattice h.now) choice h.now.m (suc level) w.operator s.now.ostarts.now }
+    requires forward_starts { (w.o.s + edges_on (the_lattice h.now) level < length s.now.starts.now)
+        × (get_or s.now.starts.now (w.o.s + edges_on (the_lattice h.now) level) 0 ≡ forward_count (the_lattice h.now) level) }
+    ensures { result ≡ standing_at (the_lattice h.now) choice h.now.m (suc level) }
 {
-    let n = lines::level_edges(l, st, lines, m, level);
-    let c = lines::level_edges(l, st, lines, m, level + 1);
+    let n = h.edges(level);
+    let c = h.edges(level + 1);
     let d = needs::only(choice, n);
     let e = needs::only(choice, c);
     let base = w.base + (n + 3 * c + (d + 2 * e));
     let to = w.to + c;
     let scale = w.scale + (n + c);
-    let last = w.s + c;
-    let s = last + 1;
-    let k = w.k + ostarts[last];
+    let o = transfers::next_offsets(h, level, w.o, s.starts);
+    let operator = lines::behind(w.operator, c, s.ostarts);
     Standing {
+        o,
         base,
         from: w.to,
         to,
         scale,
-        s,
-        k,
+        operator,
     }
 }
 
@@ -88,42 +81,25 @@ fn next_standing(
 // Its permittivities, in both chains.
 fn eps_parts(
     choice: Choice,
-    l: Lattice,
-    st: &[f64],
-    lines: [Line; 36],
-    m: usize,
+    h: &Hierarchy<'_>,
     level: usize,
-    o: Offsets,
     w: Standing,
     flags: &[u64],
     eps: &mut [f64],
 ) -> Result<(), NotFinite>
-    requires limits { Limits l.grid }
-    requires level_lt_m { (level < m) × (m ≤ 11) }
-    requires has_lines { HasLines (full_lattice l st.now) m lines }
-    requires o_value { (o ≡ offsets_at (full_lattice l st.now) level) × (w ≡ standing_at (full_lattice l st.now) choice m level) }
-    requires m_bound { part_off (full_lattice l st.now) choice m (part_count m) ≤ 64 * length flags.now }
-    requires m_in_bounds { 2 * eps_need (full_lattice l st.now) choice m ≤ length eps.old }
-    ensures { RenewedIn (full_lattice l st.now) choice m (flagged_some (full_lattice l st.now) choice m flags.now (suc (7 * level)) 2)
+    requires level_lt_m { level < h.now.m }
+    requires w_value { w ≡ standing_at (the_lattice h.now) choice h.now.m level }
+    requires m_bound { part_off (the_lattice h.now) choice h.now.m (part_count h.now.m) ≤ 64 * length flags.now }
+    requires m_in_bounds { 2 * eps_need (the_lattice h.now) choice h.now.m ≤ length eps.old }
+    ensures { RenewedIn (the_lattice h.now) choice h.now.m (flagged_some (the_lattice h.now) choice h.now.m flags.now (suc (7 * level)) 2)
         with_eps eps.old (code_of result) eps.new }
 {
-    renew_transfer::coarse_part(choice, l, st, lines, m, level, o, flags, w.base, eps)?;
+    renew_transfer::coarse_part(choice, h, level, w.o, flags, w.base, eps)?;
     match choice {
         Choice::Galerkin => Ok(()),
         Choice::Rediscretized => {
-            let c = lines::level_edges(l, st, lines, m, level + 1);
-            renew_transfer::averaged_part(
-                l,
-                st,
-                lines,
-                m,
-                level,
-                w.from,
-                w.to,
-                flags,
-                w.base + c,
-                eps,
-            )
+            let c = h.edges(level + 1);
+            renew_transfer::averaged_part(h, level, w.from, w.to, flags, w.base + c, eps)
         }
     }
 }
@@ -131,109 +107,70 @@ fn eps_parts(
 // Its forward and its turned rows.
 fn weight_parts(
     choice: Choice,
-    l: Lattice,
-    st: &[f64],
-    lines: [Line; 36],
-    m: usize,
+    h: &Hierarchy<'_>,
     level: usize,
-    o: Offsets,
     w: Standing,
     flags: &[u64],
-    starts: &[usize],
-    columns: &[usize],
-    tstarts: &[usize],
-    tcolumns: &[usize],
+    s: &Structure<'_>,
     eps: &[f64],
     values: &mut [f64],
     tvalues: &mut [f64],
 ) -> Result<(), NotFinite>
-    requires limits { Limits l.grid }
-    requires level_lt_m { (level < m) × (m ≤ 11) }
-    requires has_lines { HasLines (full_lattice l st.now) m lines }
-    requires o_value { (o ≡ offsets_at (full_lattice l st.now) level) × (w ≡ standing_at (full_lattice l st.now) choice m level) }
-    requires m_bound { part_off (full_lattice l st.now) choice m (part_count m) ≤ 64 * length flags.now }
-    requires starts_at { StartsAt (forward_cols (full_lattice l st.now) level) (edges_on (full_lattice l st.now) level) (starts_off (edges_on (full_lattice l st.now)) level) starts.now }
-    requires turned_ready { TurnedReady (full_lattice l st.now) level o (edges_on (full_lattice l st.now) level) starts.now columns.now values.old tstarts.now tcolumns.now }
-    requires weight_room { WeightRoom (full_lattice l st.now) choice m eps.now values.old tvalues.old }
-    ensures { WeightsRenewed (full_lattice l st.now) choice m (flagged_some (full_lattice l st.now) choice m flags.now (suc (7 * level + 2)) 2)
+    requires level_lt_m { level < h.now.m }
+    requires w_value { w ≡ standing_at (the_lattice h.now) choice h.now.m level }
+    requires m_bound { part_off (the_lattice h.now) choice h.now.m (part_count h.now.m) ≤ 64 * length flags.now }
+    requires starts_at { StartsAt (forward_cols (the_lattice h.now) level) (edges_on (the_lattice h.now) level) (starts_off (edges_on (the_lattice h.now)) level) s.now.starts.now }
+    requires turned_ready { TurnedReady (the_lattice h.now) level w.o (edges_on (the_lattice h.now) level) s.now.starts.now s.now.columns.now values.old s.now.tstarts.now s.now.tcolumns.now }
+    requires weight_room { WeightRoom (the_lattice h.now) choice h.now.m eps.now values.old tvalues.old }
+    ensures { WeightsRenewed (the_lattice h.now) choice h.now.m (flagged_some (the_lattice h.now) choice h.now.m flags.now (suc (7 * level + 2)) 2)
         eps.now values.old tvalues.old (code_of result) values.new tvalues.new }
 {
-    let n = lines::level_edges(l, st, lines, m, level);
-    let c = lines::level_edges(l, st, lines, m, level + 1);
+    let n = h.edges(level);
+    let c = h.edges(level + 1);
     let d = needs::only(choice, c);
     let b = w.base + (c + d);
-    renew_transfer::forward_part(
-        choice, l, st, lines, m, level, o, flags, b, starts, eps, values,
-    )?;
-    renew_transfer::turned_part(
-        choice,
-        l,
-        st,
-        lines,
-        m,
-        level,
-        o,
-        flags,
-        b + n,
-        starts,
-        columns,
-        values,
-        tstarts,
-        tcolumns,
-        tvalues,
-    )
+    renew_transfer::forward_part(choice, h, level, w.o, flags, b, s.starts, eps, values)?;
+    renew_transfer::turned_part(choice, h, level, w.o, flags, b + n, s, values, tvalues)
 }
 
 // The inverse shares and the operator's rows of a rediscretized store. No volume is flagged.
 fn scaled_parts(
-    l: Lattice,
-    st: &[f64],
-    lines: [Line; 36],
-    m: usize,
+    h: &Hierarchy<'_>,
     level: usize,
-    o: Offsets,
     w: Standing,
     flags: &[u64],
-    tstarts: &[usize],
-    tcolumns: &[usize],
-    ostarts: &[usize],
+    s: &Structure<'_>,
     eps: &[f64],
     tvalues: &[f64],
     ovalues: &mut [f64],
     scaling: &mut [f64],
 ) -> Result<(), NotFinite>
-    requires limits { Limits l.grid }
-    requires level_lt_m { (level < m) × (m ≤ 11) }
-    requires has_lines { HasLines (full_lattice l st.now) m lines }
-    requires o_value { (o ≡ offsets_at (full_lattice l st.now) level) × (w ≡ standing_at (full_lattice l st.now) Rediscretized m level) }
-    requires m_bound { (part_off (full_lattice l st.now) Rediscretized m (part_count m) ≤ 64 * length flags.now) × (NoVolumes (full_lattice l st.now) Rediscretized m flags.now) }
-    requires turned_rows { (TurnedRows (full_lattice l st.now) level tstarts.now tcolumns.now tvalues.now)
-        × (OperatorStarts (full_lattice l st.now) Rediscretized m (suc level) (record { s = w.s; k = w.k }) ostarts.now) }
-    requires m_in_bounds { (2 * averaged_off (full_lattice l st.now) m m ≤ length eps.now) × (2 * operator_off (full_lattice l st.now) Rediscretized m (suc m) ≤ length ovalues.old)
-        × (2 * scale_off (full_lattice l st.now) m ≤ length scaling.old) }
-    ensures { ScaledRenewed (full_lattice l st.now) m tstarts.now tcolumns.now
-        (flagged_some (full_lattice l st.now) Rediscretized m flags.now (suc (7 * level + 4)) 3)
+    requires level_lt_m { level < h.now.m }
+    requires w_value { w ≡ standing_at (the_lattice h.now) Rediscretized h.now.m level }
+    requires m_bound { (part_off (the_lattice h.now) Rediscretized h.now.m (part_count h.now.m) ≤ 64 * length flags.now) × (NoVolumes (the_lattice h.now) Rediscretized h.now.m flags.now) }
+    requires turned_rows { (TurnedRows (the_lattice h.now) level s.now.tstarts.now s.now.tcolumns.now tvalues.now)
+        × (OperatorStarts (the_lattice h.now) Rediscretized h.now.m (suc level) w.operator s.now.ostarts.now) }
+    requires m_in_bounds { (2 * averaged_off (the_lattice h.now) h.now.m h.now.m ≤ length eps.now) × (2 * operator_off (the_lattice h.now) Rediscretized h.now.m (suc h.now.m) ≤ length ovalues.old)
+        × (2 * scale_off (the_lattice h.now) h.now.m ≤ length scaling.old) }
+    ensures { ScaledRenewed (the_lattice h.now) h.now.m s.now.tstarts.now s.now.tcolumns.now
+        (flagged_some (the_lattice h.now) Rediscretized h.now.m flags.now (suc (7 * level + 4)) 3)
         eps.now tvalues.now ovalues.old scaling.old (code_of result) ovalues.new scaling.new }
 {
-    let n = lines::level_edges(l, st, lines, m, level);
-    let c = lines::level_edges(l, st, lines, m, level + 1);
+    let n = h.edges(level);
+    let c = h.edges(level + 1);
     let b = w.base + (2 * n + 3 * c);
-    let q = Part { s: w.s, k: w.k };
     renew_operator::share_part(
-        l, st, lines, m, level, o, w.scale, flags, b, tstarts, tcolumns, tvalues, scaling,
+        h, level, w.o, w.scale, flags, b, s.tstarts, s.tcolumns, tvalues, scaling,
     )?;
     renew_operator::stencil_part(
-        l,
-        st,
-        lines,
-        m,
+        h,
         level,
         w.to,
-        q,
+        w.operator,
         flags,
         b + c,
         eps,
-        ostarts,
+        s.ostarts,
         ovalues,
     )
 }
@@ -241,53 +178,41 @@ fn scaled_parts(
 // The rows behind the turned ones, of either choice.
 fn operator_parts(
     choice: Choice,
-    l: Lattice,
-    st: &[f64],
-    lines: [Line; 36],
-    m: usize,
+    h: &Hierarchy<'_>,
     level: usize,
-    o: Offsets,
     fine: FineRows,
     w: Standing,
     flags: &[u64],
-    starts: &[usize],
-    columns: &[usize],
-    tstarts: &[usize],
-    tcolumns: &[usize],
-    ostarts: &[usize],
-    ocolumns: &[usize],
-    eps: &[f64],
-    values: &[f64],
-    tvalues: &[f64],
-    ovalues: &mut [f64],
-    scaling: &mut [f64],
+    s: &Structure<'_>,
+    n: &mut Numbers<'_>,
 ) -> Result<(), NotFinite>
-    requires level_lt_m { level < m }
-    requires has_lines { HasLines (full_lattice l st.now) m lines }
-    requires o_value { (o ≡ offsets_at (full_lattice l st.now) level) × (fine ≡ fine_of (full_lattice l st.now) choice m level) × (w ≡ standing_at (full_lattice l st.now) choice m level) }
-    requires m_bound { (part_off (full_lattice l st.now) choice m (part_count m) ≤ 64 * length flags.now) × (NoVolumes (full_lattice l st.now) choice m flags.now) }
-    requires shaped { Shaped (full_lattice l st.now) choice m (fixed starts.now columns.now tstarts.now tcolumns.now ostarts.now ocolumns.now) }
-    requires five_room { FiveRoom (full_lattice l st.now) choice m (five eps.now values.now tvalues.now ovalues.old scaling.old) }
-    ensures { Renewed (full_lattice l st.now) choice m
-        (fixed starts.now columns.now tstarts.now tcolumns.now ostarts.now ocolumns.now)
-        (flagged_some (full_lattice l st.now) choice m flags.now (suc (7 * level + 4)) 3)
-        (five eps.now values.now tvalues.now ovalues.old scaling.old) (code_of result)
-        (five eps.now values.now tvalues.now ovalues.new scaling.new) }
+    requires level_lt_m { level < h.now.m }
+    requires w_value { (fine ≡ fine_of (the_lattice h.now) choice h.now.m level) × (w ≡ standing_at (the_lattice h.now) choice h.now.m level) }
+    requires m_bound { (part_off (the_lattice h.now) choice h.now.m (part_count h.now.m) ≤ 64 * length flags.now) × (NoVolumes (the_lattice h.now) choice h.now.m flags.now) }
+    requires shaped { Shaped (the_lattice h.now) choice h.now.m (fixed_of s.now) }
+    requires five_room { FiveRoom (the_lattice h.now) choice h.now.m (five_of n.old) }
+    ensures same { SameNumbers n.old n.new }
+    ensures long { SameLong (five_of n.old) (five_of n.new) }
+    ensures renewed { Renewed (the_lattice h.now) choice h.now.m (fixed_of s.now)
+        (flagged_some (the_lattice h.now) choice h.now.m flags.now (suc (7 * level + 4)) 3)
+        (five_of n.old) (code_of result) (five_of n.new) }
 {
+    let eps = &mut *n.eps;
+    let values = &mut *n.values;
+    let tvalues = &mut *n.tvalues;
+    let ovalues = &mut *n.ovalues;
+    let scaling = &mut *n.scaling;
     match choice {
         Choice::Galerkin => {
-            let n = lines::level_edges(l, st, lines, m, level);
-            let c = lines::level_edges(l, st, lines, m, level + 1);
-            let b = w.base + (n + 2 * c);
-            let q = Part { s: w.s, k: w.k };
+            let f = h.edges(level);
+            let c = h.edges(level + 1);
+            let b = w.base + (f + 2 * c);
             renew_operator::galerkin_part(
-                l, st, lines, m, level, o, fine, q, flags, b, starts, columns, tstarts, tcolumns,
-                ostarts, ocolumns, eps, values, tvalues, ovalues,
+                h, level, w.o, fine, w.operator, flags, b, s, eps, values, tvalues, ovalues,
             )
         }
         Choice::Rediscretized => scaled_parts(
-            l, st, lines, m, level, o, w, flags, tstarts, tcolumns, ostarts, eps, tvalues, ovalues,
-            scaling,
+            h, level, w, flags, s, eps, tvalues, ovalues, scaling,
         ),
     }
 }
@@ -295,48 +220,31 @@ fn operator_parts(
 // All rows of the transfer from level `level` + 1 to `level`.
 fn renew_level(
     choice: Choice,
-    l: Lattice,
-    st: &[f64],
-    lines: [Line; 36],
-    m: usize,
+    h: &Hierarchy<'_>,
     level: usize,
-    o: Offsets,
     fine: FineRows,
     w: Standing,
     flags: &[u64],
-    starts: &[usize],
-    columns: &[usize],
-    tstarts: &[usize],
-    tcolumns: &[usize],
-    ostarts: &[usize],
-    ocolumns: &[usize],
-    eps: &mut [f64],
-    values: &mut [f64],
-    tvalues: &mut [f64],
-    ovalues: &mut [f64],
-    scaling: &mut [f64],
+    s: &Structure<'_>,
+    n: &mut Numbers<'_>,
 ) -> Result<(), NotFinite>
-    requires level_lt_m { level < m }
-    requires has_lines { HasLines (full_lattice l st.now) m lines }
-    requires o_value { (o ≡ offsets_at (full_lattice l st.now) level) × (fine ≡ fine_of (full_lattice l st.now) choice m level) × (w ≡ standing_at (full_lattice l st.now) choice m level) }
-    requires m_bound { (part_off (full_lattice l st.now) choice m (part_count m) ≤ 64 * length flags.now) × (NoVolumes (full_lattice l st.now) choice m flags.now) }
-    requires shaped { Shaped (full_lattice l st.now) choice m (fixed starts.now columns.now tstarts.now tcolumns.now ostarts.now ocolumns.now) }
-    requires five_room { FiveRoom (full_lattice l st.now) choice m (five eps.old values.old tvalues.old ovalues.old scaling.old) }
-    ensures { Renewed (full_lattice l st.now) choice m
-        (fixed starts.now columns.now tstarts.now tcolumns.now ostarts.now ocolumns.now)
-        (flagged_some (full_lattice l st.now) choice m flags.now (suc (7 * level)) 7)
-        (five eps.old values.old tvalues.old ovalues.old scaling.old) (code_of result)
-        (five eps.new values.new tvalues.new ovalues.new scaling.new) }
+    requires level_lt_m { level < h.now.m }
+    requires w_value { (fine ≡ fine_of (the_lattice h.now) choice h.now.m level) × (w ≡ standing_at (the_lattice h.now) choice h.now.m level) }
+    requires m_bound { (part_off (the_lattice h.now) choice h.now.m (part_count h.now.m) ≤ 64 * length flags.now) × (NoVolumes (the_lattice h.now) choice h.now.m flags.now) }
+    requires shaped { Shaped (the_lattice h.now) choice h.now.m (fixed_of s.now) }
+    requires five_room { FiveRoom (the_lattice h.now) choice h.now.m (five_of n.old) }
+    ensures same { SameNumbers n.old n.new }
+    ensures long { SameLong (five_of n.old) (five_of n.new) }
+    ensures renewed { Renewed (the_lattice h.now) choice h.now.m (fixed_of s.now)
+        (flagged_some (the_lattice h.now) choice h.now.m flags.now (suc (7 * level)) 7)
+        (five_of n.old) (code_of result) (five_of n.new) }
 {
-    eps_parts(choice, l, st, lines, m, level, o, w, flags, eps)?;
-    weight_parts(
-        choice, l, st, lines, m, level, o, w, flags, starts, columns, tstarts, tcolumns, eps,
-        values, tvalues,
-    )?;
-    operator_parts(
-        choice, l, st, lines, m, level, o, fine, w, flags, starts, columns, tstarts, tcolumns,
-        ostarts, ocolumns, eps, values, tvalues, ovalues, scaling,
-    )
+    eps_parts(choice, h, level, w, flags, n.eps)?;
+    let eps = &mut *n.eps;
+    let values = &mut *n.values;
+    let tvalues = &mut *n.tvalues;
+    weight_parts(choice, h, level, w, flags, s, eps, values, tvalues)?;
+    operator_parts(choice, h, level, fine, w, flags, s, n)
 }
 
 // ---- all transfers
@@ -345,45 +253,27 @@ fn renew_level(
 // are the lattice's, room, and the flags of all rows, among them no volume's.
 fn renew_levels(
     choice: Choice,
-    l: Lattice,
-    st: &[f64],
-    lines: [Line; 36],
-    m: usize,
+    h: &Hierarchy<'_>,
     flags: &[u64],
-    starts: &[usize],
-    columns: &[usize],
-    tstarts: &[usize],
-    tcolumns: &[usize],
-    ostarts: &[usize],
-    ocolumns: &[usize],
-    eps: &mut [f64],
-    values: &mut [f64],
-    tvalues: &mut [f64],
-    ovalues: &mut [f64],
-    scaling: &mut [f64],
+    s: &Structure<'_>,
+    n: &mut Numbers<'_>,
 ) -> Result<(), NotFinite>
-    requires m_nonzero { 0 < m }
-    requires has_lines { HasLines (full_lattice l st.now) m lines }
-    requires m_bound { (part_off (full_lattice l st.now) choice m (part_count m) ≤ 64 * length flags.now) × (NoVolumes (full_lattice l st.now) choice m flags.now) }
-    requires shaped { Shaped (full_lattice l st.now) choice m (fixed starts.now columns.now tstarts.now tcolumns.now ostarts.now ocolumns.now) }
-    requires five_room { FiveRoom (full_lattice l st.now) choice m (five eps.old values.old tvalues.old ovalues.old scaling.old) }
-    ensures { Renewed (full_lattice l st.now) choice m
-        (fixed starts.now columns.now tstarts.now tcolumns.now ostarts.now ocolumns.now)
-        (flagged_rows (full_lattice l st.now) choice m flags.now)
-        (five eps.old values.old tvalues.old ovalues.old scaling.old) (code_of result)
-        (five eps.new values.new tvalues.new ovalues.new scaling.new) }
+    requires m_nonzero { 0 < h.now.m }
+    requires m_bound { (part_off (the_lattice h.now) choice h.now.m (part_count h.now.m) ≤ 64 * length flags.now) × (NoVolumes (the_lattice h.now) choice h.now.m flags.now) }
+    requires shaped { Shaped (the_lattice h.now) choice h.now.m (fixed_of s.now) }
+    requires five_room { FiveRoom (the_lattice h.now) choice h.now.m (five_of n.old) }
+    ensures same { SameNumbers n.old n.new }
+    ensures long { SameLong (five_of n.old) (five_of n.new) }
+    ensures renewed { Renewed (the_lattice h.now) choice h.now.m (fixed_of s.now)
+        (flagged_rows (the_lattice h.now) choice h.now.m flags.now)
+        (five_of n.old) (code_of result) (five_of n.new) }
 {
-    let mut o = transfers::first_offsets(l, st, lines, m);
-    let mut w = first_standing(choice, l, st, lines, m);
+    let mut w = first_standing(choice, h);
     let mut fine = FineRows::Computed;
-    for level in 0..m {
-        renew_level(
-            choice, l, st, lines, m, level, o, fine, w, flags, starts, columns, tstarts, tcolumns,
-            ostarts, ocolumns, eps, values, tvalues, ovalues, scaling,
-        )?;
-        fine = FineRows::Stored(Part { s: w.s, k: w.k });
-        o = transfers::next_offsets(l, st, lines, m, level, o, starts);
-        w = next_standing(choice, l, st, lines, m, level, w, ostarts);
+    for level in 0..h.m {
+        renew_level(choice, h, level, fine, w, flags, s, n)?;
+        fine = FineRows::Stored(w.operator);
+        w = next_standing(choice, h, level, w, s);
     }
     Ok(())
 }
@@ -392,41 +282,25 @@ fn renew_levels(
 // it are as they were. `requires`: the lines of all levels, starts and columns that are the lattice's, room, and the flags of all rows, among them no volume's.
 pub fn renew_rows(
     choice: Choice,
-    l: Lattice,
-    st: &[f64],
-    lines: [Line; 36],
-    m: usize,
+    h: &Hierarchy<'_>,
     flags: &[u64],
-    starts: &[usize],
-    columns: &[usize],
-    tstarts: &[usize],
-    tcolumns: &[usize],
-    ostarts: &[usize],
-    ocolumns: &[usize],
-    eps: &mut [f64],
-    values: &mut [f64],
-    tvalues: &mut [f64],
-    ovalues: &mut [f64],
-    scaling: &mut [f64],
+    s: &Structure<'_>,
+    n: &mut Numbers<'_>,
 ) -> Result<(), NotFinite>
-    requires limits { Limits l.grid }
-    requires m_bound { m ≤ 11 }
-    requires has_lines { HasLines (full_lattice l st.now) m lines }
-    requires shaped { Shaped (full_lattice l st.now) choice m (fixed starts.now columns.now tstarts.now tcolumns.now ostarts.now ocolumns.now) }
-    requires five_room { FiveRoom (full_lattice l st.now) choice m (five eps.old values.old tvalues.old ovalues.old scaling.old) }
-    requires m_bound_2 { part_off (full_lattice l st.now) choice m (part_count m) ≤ 64 * length flags.now }
-    requires no_volumes { NoVolumes (full_lattice l st.now) choice m flags.now }
-    ensures { Renewed (full_lattice l st.now) choice m
-        (fixed starts.now columns.now tstarts.now tcolumns.now ostarts.now ocolumns.now)
-        (flagged_rows (full_lattice l st.now) choice m flags.now)
-        (five eps.old values.old tvalues.old ovalues.old scaling.old) (code_of result)
-        (five eps.new values.new tvalues.new ovalues.new scaling.new) }
+    requires shaped { Shaped (the_lattice h.now) choice h.now.m (fixed_of s.now) }
+    requires five_room { FiveRoom (the_lattice h.now) choice h.now.m (five_of n.old) }
+    requires m_bound_2 { part_off (the_lattice h.now) choice h.now.m (part_count h.now.m) ≤ 64 * length flags.now }
+    requires no_volumes { NoVolumes (the_lattice h.now) choice h.now.m flags.now }
+    ensures same { SameNumbers n.old n.new }
+    ensures long { SameLong (five_of n.old) (five_of n.new) }
+    ensures renewed { Renewed (the_lattice h.now) choice h.now.m (fixed_of s.now)
+        (flagged_rows (the_lattice h.now) choice h.now.m flags.now)
+        (five_of n.old) (code_of result) (five_of n.new) }
 {
-    if m == 0 {
-        return renew_operator::sole_part(choice, l, st, flags, eps, ostarts, ovalues);
+    if h.m == 0 {
+        let eps = &mut *n.eps;
+        let ovalues = &mut *n.ovalues;
+        return renew_operator::sole_part(choice, &h.l, flags, eps, s.ostarts, ovalues);
     }
-    renew_levels(
-        choice, l, st, lines, m, flags, starts, columns, tstarts, tcolumns, ostarts, ocolumns, eps,
-        values, tvalues, ovalues, scaling,
-    )
+    renew_levels(choice, h, flags, s, n)
 }

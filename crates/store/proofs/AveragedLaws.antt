@@ -20,20 +20,21 @@ use Rattle.numbers.proofs.SumLaws.{sum_agree, sum_to_zero, sum_to_suc, sum_most}
 use Rattle.numbers.proofs.ListLaws.{laid_numbers_length}
 use Rattle.numbers.proofs.TransposedLaws.{laid_count}
 use Rattle.numbers.proofs.PartLaws.{laid_next, laid_zero, part_number, part_room, rows_sum, sum_rise}
-use Rattle.lattice.specs.declared.line.Line.{Line}
-use Rattle.lattice.specs.declared.levels.Three.{Three}
 use Rattle.lattice.specs.Grid.{Limits}
 use Rattle.lattice.specs.Lattice.{FullLattice}
+use Rattle.lattice.specs.Levels.{three_at}
+use Rattle.lattice.specs.Sound.{full}
+use Rattle.weights.specs.declared.pair.Pair.{Pair}
 use Rattle.operators.specs.LevelLists.{edges_on, rediscretized_next, AveragedGiven, AveragedReady, AveragedLeft}
 use Rattle.operators.specs.Levels.{averaged_on, rediscretized_at}
 use Rattle.operators.proofs.RediscretizedLevel.{averaged_next_lem, rediscretized_next_lem}
 use Rattle.store.specs.Layout.{next_edges, operator_count, operator_off, stored_starts, eps_off, averaged_off}
 use Rattle.store.specs.Setup.{averaged_part}
-use Rattle.store.specs.Phases.{HasLines, three_in, operator_part, noted, first_of, GivenIn, OperatorRoom, OperatorsLeft, operator_fine, AveragedRoom, averaged_fine}
+use Rattle.store.specs.Hierarchy.{LevelPair}
+use Rattle.store.specs.Phases.{operator_part, noted, first_of, GivenIn, OperatorRoom, OperatorsLeft, operator_fine, AveragedRoom, averaged_fine}
 use Rattle.store.specs.PhaseSteps.{behind_of, averaged_from, AveragedPlaces, AveragedIn, AveragedLevel, RediscretizedLeft, RediscretizedDone}
 use Rattle.store.specs.declared.Choice.TheVariants.{Rediscretized}
 use Rattle.operators.proofs.Equations.{averaged_on_zero}
-use Rattle.store.proofs.LineLaws.{three_is}
 use Rattle.store.proofs.EndLaws.{edges_next}
 use Rattle.store.proofs.StepLaws.{part_at, starts_later, terms_later, operators_next, operators_long, operators_none, operator_second}
 use Rattle.store.proofs.SizeLaws.{operator_count_lem, stored_later, averaged_long, stored_rows, eps_low, ostarts_low, operator_low, operator_few, edges_few}
@@ -58,19 +59,18 @@ pub averaged_apart : (l : FullLattice) (m L : ℕ) → averaged_from l m L + edg
 averaged_apart l m zero = omega (arith, part_room (edges_on l) 0 (suc m) (omega arith))
 averaged_apart l m (suc L) = omega (arith, sum_to_suc (next_edges l) L)
 
-module _ (l : FullLattice) (limits : Limits l.grid) (m L : ℕ) (h : (L < m) × (m ≤ 11)) {lines : List Line} (has : HasLines l m lines) {from to : ℕ} {o : Part}
+module _ (l : FullLattice) (limits : Limits l.grid) (m L : ℕ) (h : (L < m) × (m ≤ 11)) {from to : ℕ} {o : Part}
     (at : AveragedPlaces l m L from to o) {eps : List Float} (room : AveragedRoom l m eps)
-    {fine coarse : Three} (p : fine ≡ three_in lines L) (q : coarse ≡ three_in lines (L + 1)) where
+    {pair : Pair} (p : LevelPair l L pair) where
   next_room : averaged_off l m L + edges_on l (suc L) ≤ averaged_off l m m
   next_room = omega (arith, part_room (next_edges l) L m h.0)
 
-  level_given : (g : ℕ → C64) → ((r : ℕ) → r < edges_on l L → read_from eps from r ≡ g r) → AveragedGiven l fine coarse eps from to g L
+  level_given : (g : ℕ → C64) → ((r : ℕ) → r < edges_on l L → read_from eps from r ≡ g r) → AveragedGiven l (three_at l L) (three_at l (suc L)) eps from to g L
   level_given g reads =
-      let z : L + 1 ≡ suc L = omega arith in
       record {
         limits = limits;
-        fine_lines = p ∙ three_is _ _ has L (omega (arith, h.0));
-        coarse_lines = q ∙ ap (three_in lines) z ∙ three_is _ _ has (suc L) (omega (arith, h.0));
+        fine_lines = refl;
+        coarse_lines = refl;
         chain = record {
           apart = omega (arith, averaged_apart l m L, at.from_is, at.to_is);
           room = omega (arith, next_room, at.to_is, room.room);
@@ -79,22 +79,25 @@ module _ (l : FullLattice) (limits : Limits l.grid) (m L : ℕ) (h : (L < m) × 
         reads = reads;
       }
 
-  pub level_asked : AveragedReady l fine coarse eps from to o
+  pub level_asked : AveragedReady (full pair.l) pair.fine pair.coarse eps from to o
   level_asked =
       let e = at.part_is in
+      let ready : AveragedReady l (three_at l L) (three_at l (suc L)) eps from to o =
       record {
         reader = read_from eps from;
         level = L;
         given = level_given (read_from eps from) (λ r b. refl);
         starts_low = omega (arith, h.0, h.1, ostarts_low l limits m (suc L), ap (λ (o : Part). o.s) e);
         low = omega (arith, h.0, h.1, operator_low l limits Rediscretized m (suc L), ap (λ (o : Part). o.k) e);
-      }
+      } in
+      rw (p.base_is, p.fine_is, p.coarse_is) ready
 
-  pub level_done : {os oc : List ℕ} {ox eps' : List Float} {os' oc' : List ℕ} {ox' : List Float} {b : Bool} → AveragedLeft l fine coarse eps from to o os oc ox eps' os' oc' ox' b
+  pub level_done : {os oc : List ℕ} {ox eps' : List Float} {os' oc' : List ℕ} {ox' : List Float} {b : Bool} → AveragedLeft (full pair.l) pair.fine pair.coarse eps from to o os oc ox eps' os' oc' ox' b
       → AveragedLevel l m L eps os oc ox eps' os' oc' ox' b
   unfolding averaged_fine operator_fine
-  level_done {os} {oc} {ox} {eps'} {os'} {oc'} {ox'} d =
+  level_done {os} {oc} {ox} {eps'} {os'} {oc'} {ox'} {b} left =
       let z = stored_later m L in
+      let d : AveragedLeft l (three_at l L) (three_at l (suc L)) eps from to o os oc ox eps' os' oc' ox' b = rw (p.base_is, p.fine_is, p.coarse_is) at left in
       record {
         averaged = λ f u.
             d.averaged (averaged_on l f L) L (given_by f u)
@@ -110,7 +113,7 @@ module _ (l : FullLattice) (limits : Limits l.grid) (m L : ℕ) (h : (L < m) × 
             ∙ rw z refl;
       }
     where
-      given_by : (f : ℕ → C64) → AveragedIn l f m L eps → AveragedGiven l fine coarse eps from to (averaged_on l f L) L
+      given_by : (f : ℕ → C64) → AveragedIn l f m L eps → AveragedGiven l (three_at l L) (three_at l (suc L)) eps from to (averaged_on l f L) L
       given_by f u = level_given (averaged_on l f L) (λ r b. ap (λ (k : ℕ). read_from eps k r) at.from_is ∙ u.reads r b)
 
 -- ---- level by level

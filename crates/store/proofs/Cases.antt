@@ -4,7 +4,7 @@ use Prim.Native.Nat.{ℕ, suc}
 use mathlib.Core.Path.{◌≡◌, refl, sym, ◌∙◌}
 use mathlib.Core.List.{List, map, ◌++◌}
 use lib.Ieee.{Float, add, sub, mul, div, neg, le, lt, eq, of_bits, of_int}
-use Rattle.numbers.proofs.Tutorial.{map_append}
+use Rattle.std.proofs.lemmas.List.{map-append}
 use Rattle.lattice.specs.Cases.{Outcome, Case}
 use Rattle.operators.specs.Cases as Below
 use Rattle.operators.proofs.Cases as BelowLaws
@@ -56,7 +56,7 @@ abbrev Right : List Case → Type 0
 Right cs = map computed cs ≡ map expected cs
 
 both : (cs ds : List Case) → Right cs → Right ds → Right (cs ++ ds)
-both cs ds p q = map_append computed cs ds ∙ (λ i. p i ++ q i) ∙ sym (map_append expected cs ds)
+both cs ds p q = map-append computed cs ds ∙ (λ i. p i ++ q i) ∙ sym (map-append expected cs ds)
 
 rows_right : (c e : Result) → c ≡ e → Right (setting c e)
 unfolding setting

@@ -1,4 +1,4 @@
--- The walk over the doubles of the flagged rows: kinds by number, the first double from a row on, the next one, doubles saved and put back.
+-- The walk over the doubles of the flagged rows: the kind of a list, the first double from a row on, the next one, doubles saved and put back.
 -- Assumes nothing.
 use Prim.Native.Nat.{ℕ, zero, suc, ◌+◌, ◌-◌, ◌*◌, ◌≤◌, ◌<◌, ◌^◌}
 use mathlib.Core.Path.{◌≡◌, refl, sym, ap, subst, ◌∙◌}
@@ -15,80 +15,30 @@ use Rattle.numbers.proofs.Equations.{tabulate_zero, tabulate_suc}
 use Rattle.store.specs.Parts.{flag_at}
 use Rattle.store.specs.Renewed.{Five}
 use Rattle.store.specs.Spots.{Kind, permittivity, forwards, turneds, entries, scales}
-use Rattle.store.specs.Cells.{Cell, cell, no_cell, kind_no, chosen, double_at, set_double, Chart, rows_of, base_of, list_no, number_no, from_by, count_by, span_of, flagged_span, cells_on, rows_from, rest_from, rest_of, SpanFits, ChartFits, CellsFit, CursorIn, Found, Stepped, Kept, SavedFrom, put_cells}
+use Rattle.store.specs.Cells.{Cell, cell, no_cell, kind_in, chosen, double_at, set_double, Chart, rows_of, base_of, list_in, from_by, count_by, span_of, flagged_span, cells_on, rows_from, rest_from, rest_of, SpanFits, ChartFits, CellsFit, CursorIn, Found, Stepped, Kept, SavedFrom, put_cells}
 use Rattle.store.specs.declared.change.Cursor.{Cursor}
+use Rattle.store.specs.declared.change.NumberList.{NumberList}
+use Rattle.store.specs.declared.change.NumberList.TheVariants.{Permittivities}
 
--- ---- kinds by number
+-- ---- the list of a kind
 
-pub kind_0 : (n : ℕ) → n ≡ 0 → kind_no n ≡ permittivity
-unfolding kind_no
-kind_0 n e = rw e refl
-
-pub kind_1 : (n : ℕ) → n ≡ 1 → kind_no n ≡ forwards
-unfolding kind_no
-kind_1 n e = rw e refl
-
-pub kind_2 : (n : ℕ) → n ≡ 2 → kind_no n ≡ turneds
-unfolding kind_no
-kind_2 n e = rw e refl
-
-pub kind_3 : (n : ℕ) → n ≡ 3 → kind_no n ≡ entries
-unfolding kind_no
-kind_3 n e = rw e refl
-
-pub kind_4 : (n : ℕ) → (n ≡ 0 → ⊥) → (n ≡ 1 → ⊥) → (n ≡ 2 → ⊥) → (n ≡ 3 → ⊥) → kind_no n ≡ scales
-unfolding kind_no
-kind_4 zero a b c d = absurd (a refl)
-kind_4 (suc zero) a b c d = absurd (b refl)
-kind_4 (suc (suc zero)) a b c d = absurd (c refl)
-kind_4 (suc (suc (suc zero))) a b c d = absurd (d refl)
-kind_4 (suc (suc (suc (suc n)))) a b c d = refl
-
-pub below_kind : (v : Five) (n j : ℕ) (k : Kind) → kind_no n ≡ k → j < length (chosen v (kind_no n)) → j < length (chosen v k)
+pub below_kind : (v : Five) (n : NumberList) (j : ℕ) (k : Kind) → kind_in n ≡ k → j < length (chosen v (kind_in n)) → j < length (chosen v k)
 below_kind v n j k e h = rw e at h
 
-pub read_kind : (v : Five) (n j : ℕ) (k : Kind) → kind_no n ≡ k → get_or (chosen v k) j nan ≡ get_or (chosen v (kind_no n)) j nan
+pub read_kind : (v : Five) (n : NumberList) (j : ℕ) (k : Kind) → kind_in n ≡ k → get_or (chosen v k) j nan ≡ get_or (chosen v (kind_in n)) j nan
 read_kind v n j k e = rw e refl
 
-pub set_kind : (v : Five) (n j : ℕ) (x : Float) (k : Kind) → kind_no n ≡ k → set_double v k j x ≡ set_double v (kind_no n) j x
+pub set_kind : (v : Five) (n : NumberList) (j : ℕ) (x : Float) (k : Kind) → kind_in n ≡ k → set_double v k j x ≡ set_double v (kind_in n) j x
 set_kind v n j x k e = rw e refl
 
-pub fits_kind : (w : Chart) (n p i : ℕ) (k : Kind) → kind_no n ≡ k → SpanFits w (kind_no n) p i → SpanFits w k p i
+pub fits_kind : (w : Chart) (n : NumberList) (p i : ℕ) (k : Kind) → kind_in n ≡ k → SpanFits w (kind_in n) p i → SpanFits w k p i
 fits_kind w n p i k e h = rw e at h
 
 -- ---- the doubles of a row
 
-pub span_kind : (w : Chart) (p i : ℕ) (k : Kind) → kind_no (list_no w p) ≡ k
-    → ◌≡◌ {A = Cursor} (record { part = p; row = i; list = list_no w p; at = 2 * from_by w k p i; left = 2 * count_by w k p i }) (span_of w p i)
+pub span_kind : (w : Chart) (p i : ℕ) (k : Kind) → kind_in (list_in w p) ≡ k
+    → ◌≡◌ {A = Cursor} (record { part = p; row = i; list = list_in w p; at = 2 * from_by w k p i; left = 2 * count_by w k p i }) (span_of w p i)
 span_kind w p i k e = rw e refl
-
-one_from : (w : Chart) (n p i : ℕ) → (n ≡ 1 → ⊥) → (n ≡ 2 → ⊥) → (n ≡ 3 → ⊥) → from_by w (kind_no n) p i ≡ number_no w p + i
-unfolding kind_no
-one_from w zero p i b c d = refl
-one_from w (suc zero) p i b c d = absurd (b refl)
-one_from w (suc (suc zero)) p i b c d = absurd (c refl)
-one_from w (suc (suc (suc zero))) p i b c d = absurd (d refl)
-one_from w (suc (suc (suc (suc n)))) p i b c d = refl
-
-one_count : (w : Chart) (n p i : ℕ) → (n ≡ 1 → ⊥) → (n ≡ 2 → ⊥) → (n ≡ 3 → ⊥) → count_by w (kind_no n) p i ≡ 1
-unfolding kind_no
-one_count w zero p i b c d = refl
-one_count w (suc zero) p i b c d = absurd (b refl)
-one_count w (suc (suc zero)) p i b c d = absurd (c refl)
-one_count w (suc (suc (suc zero))) p i b c d = absurd (d refl)
-one_count w (suc (suc (suc (suc n)))) p i b c d = refl
-
-pub one_low : (w : Chart) (n p i : ℕ) → (n ≡ 1 → ⊥) → (n ≡ 2 → ⊥) → (n ≡ 3 → ⊥) → SpanFits w (kind_no n) p i → number_no w p + i ≤ 2 ^ 40
-unfolding kind_no
-one_low w zero p i b c d h = h
-one_low w (suc zero) p i b c d h = absurd (b refl)
-one_low w (suc (suc zero)) p i b c d h = absurd (c refl)
-one_low w (suc (suc (suc zero))) p i b c d h = absurd (d refl)
-one_low w (suc (suc (suc (suc n)))) p i b c d h = h
-
-pub span_one : (w : Chart) (p i : ℕ) → (list_no w p ≡ 1 → ⊥) → (list_no w p ≡ 2 → ⊥) → (list_no w p ≡ 3 → ⊥)
-    → ◌≡◌ {A = Cursor} (record { part = p; row = i; list = list_no w p; at = 2 * (number_no w p + i); left = 2 }) (span_of w p i)
-span_one w p i b c d = rw (one_from w (list_no w p) p i b c d, one_count w (list_no w p) p i b c d) refl
 
 span_low : (w : Chart) (k : Kind) (p i : ℕ) → SpanFits w k p i → 2 * from_by w k p i + 2 * count_by w k p i ≤ 2 ^ 42
 span_low w permittivity p i h = omega arith
@@ -100,7 +50,7 @@ span_low w scales p i h = omega arith
 pub flagged_yes : (w : Chart) (p i : ℕ) → flag_at w.flags (base_of w p + i) ≡ true → span_of w p i ≡ flagged_span w p i
 flagged_yes w p i e = rw e refl
 
-pub flagged_no : (w : Chart) (p i : ℕ) → flag_at w.flags (base_of w p + i) ≡ false → ◌≡◌ {A = Cursor} (record { part = p; row = i; list = 0; at = 0; left = 0 }) (flagged_span w p i)
+pub flagged_no : (w : Chart) (p i : ℕ) → flag_at w.flags (base_of w p + i) ≡ false → ◌≡◌ {A = Cursor} (record { part = p; row = i; list = Permittivities; at = 0; left = 0 }) (flagged_span w p i)
 flagged_no w p i e = rw e refl
 
 -- a flagged row with a double
@@ -109,12 +59,12 @@ flagged_some_lem true c d r e z h = e
 flagged_some_lem false c d r e z h = absurd (omega (arith, ap (λ (x : Cursor). x.left) e))
 
 cells_none : (c : Cursor) → c.left ≡ 0 → cells_on c ≡ []
-cells_none c e = ap (λ (n : ℕ). tabulate (cell (kind_no c.list)) n c.at) e ∙ tabulate_zero (cell (kind_no c.list)) c.at
+cells_none c e = ap (λ (n : ℕ). tabulate (cell (kind_in c.list)) n c.at) e ∙ tabulate_zero (cell (kind_in c.list)) c.at
 
-cells_one : (c : Cursor) → c.left ≡ 1 → cells_on c ≡ cell (kind_no c.list) c.at ∷ []
+cells_one : (c : Cursor) → c.left ≡ 1 → cells_on c ≡ cell (kind_in c.list) c.at ∷ []
 cells_one c e =
-    ap (λ (n : ℕ). tabulate (cell (kind_no c.list)) n c.at) e ∙ tabulate_suc (cell (kind_no c.list)) 0 c.at
-    ∙ ap (λ (ds : List Cell). cell (kind_no c.list) c.at ∷ ds) (tabulate_zero (cell (kind_no c.list)) (suc c.at))
+    ap (λ (n : ℕ). tabulate (cell (kind_in c.list)) n c.at) e ∙ tabulate_suc (cell (kind_in c.list)) 0 c.at
+    ∙ ap (λ (ds : List Cell). cell (kind_in c.list) c.at ∷ ds) (tabulate_zero (cell (kind_in c.list)) (suc c.at))
 
 cells_more : (k : Kind) (a n : ℕ) → (n ≡ 0 → ⊥) → tabulate (cell k) n a ≡ cell k a ∷ tabulate (cell k) (n - 1) (a + 1)
 cells_more k a zero h = absurd (h refl)
@@ -148,9 +98,6 @@ pub record Finding (w : Chart) (parts part row p i : ℕ) : Type 0 where
   pub rest_is : rest_from w (parts - p) p i ≡ rest_from w (parts - part) part row
 
 module _ {w : Chart} {parts : ℕ} {part row : ℕ} where
-  pub finding_start : part < parts → row ≤ rows_of w part → Finding w parts part row part row
-  finding_start h g = record { part_in = omega arith; row_in = λ _. g; rest_is = refl }
-
   pub finding_row : (p i : ℕ) (r : Cursor) → Finding w parts part row p i → p < parts → i < rows_of w p → r ≡ flagged_span w p i → r.left ≡ 0 → Finding w parts part row p (i + 1)
   finding_row p i r f h g e z =
       let n : parts - p ≡ suc (parts - suc p) = omega arith in
@@ -164,13 +111,13 @@ module _ {w : Chart} {parts : ℕ} {part row : ℕ} where
       let turn : rest_from w (parts - p) p i ≡ rest_from w (parts - suc p) (suc p) 0 = rw n (rest_part w (parts - suc p) p i g) in
       record { part_in = omega arith; row_in = λ _. omega arith; rest_is = rw (add-one p) (sym turn ∙ f.rest_is) }
 
-  pub found_end : (p i : ℕ) → Finding w parts part row p i → parts ≤ p → Found w parts part row (record { part = parts; row = 0; list = 0; at = 0; left = 0 })
+  pub found_end : (p i : ℕ) → Finding w parts part row p i → parts ≤ p → Found w parts part row (record { part = parts; row = 0; list = Permittivities; at = 0; left = 0 })
   unfolding rest_of
   found_end p i f h =
       let e : p ≡ parts = omega (arith, f.part_in) in
       let a : parts - parts ≡ 0 = omega arith in
       let b : parts - p ≡ 0 = omega arith in
-      let none : tabulate (cell (kind_no 0)) 0 0 ++ rest_from w (parts - parts) parts 1 ≡ [] = rw (tabulate_zero (cell (kind_no 0)) 0) (rw a (rest_none w parts 1)) in
+      let none : tabulate (cell (kind_in Permittivities)) 0 0 ++ rest_from w (parts - parts) parts 1 ≡ [] = rw (tabulate_zero (cell (kind_in Permittivities)) 0) (rw a (rest_none w parts 1)) in
       let all : [] ≡ rest_from w (parts - part) part row = sym (rest_none w p i) ∙ sym (ap (λ (n : ℕ). rest_from w n p i) b) ∙ f.rest_is in
       record {
         within =
@@ -188,7 +135,7 @@ module _ {w : Chart} {parts : ℕ} {part row : ℕ} where
   unfolding rest_of
   found_here fits p i r f h g e s =
       let n : parts - p ≡ suc (parts - suc p) = omega arith in
-      let is : r ≡ span_of w p i = flagged_some_lem (flag_at w.flags (base_of w p + i)) (span_of w p i) (record { part = p; row = i; list = 0; at = 0; left = 0 }) r e refl s in
+      let is : r ≡ span_of w p i = flagged_some_lem (flag_at w.flags (base_of w p + i)) (span_of w p i) (record { part = p; row = i; list = Permittivities; at = 0; left = 0 }) r e refl s in
       let some : 0 < (span_of w p i).left = subst (λ (c : Cursor). 0 < c.left) is s in
       let turn : rest_from w (parts - p) p i ≡ cells_on (span_of w p i) ++ rest_from w (parts - p) p (suc i) =
       rw n (rest_row w (parts - suc p) p i g ∙ ap (λ (c : Cursor). cells_on c ++ rest_from w (suc (parts - suc p)) p (suc i)) (sym e ∙ is)) in
@@ -199,7 +146,7 @@ module _ {w : Chart} {parts : ℕ} {part row : ℕ} where
               ended = λ z. absurd (omega (arith, z));
               part_in = λ _. h;
               row_in = λ _. g;
-              low = span_low w (kind_no (list_no w p)) p i (fits.spans p i h g);
+              low = span_low w (kind_in (list_in w p)) p i (fits.spans p i h g);
               there = λ _ v y. omega (arith, y.there p i h g);
             };
         rest_is = sym turn ∙ f.rest_is;
@@ -221,7 +168,7 @@ module _ {w : Chart} {parts : ℕ} (c : Cursor) (inside : CursorIn w parts c) wh
               low = omega (arith, inside.low);
               there = λ _ v y. omega (arith, inside.there k v y);
             };
-        rest_is = ap (λ (ds : List Cell). ds ++ rest_from w (parts - c.part) c.part (suc c.row)) (cells_more (kind_no c.list) c.at c.left k);
+        rest_is = ap (λ (ds : List Cell). ds ++ rest_from w (parts - c.part) c.part (suc c.row)) (cells_more (kind_in c.list) c.at c.left k);
       }
 
   pub stepped_next : (r : Cursor) → c.left ≡ 1 → Found w parts c.part (c.row + 1) r → Stepped w parts c r
@@ -232,7 +179,7 @@ module _ {w : Chart} {parts : ℕ} (c : Cursor) (inside : CursorIn w parts c) wh
         within = f.within;
         rest_is =
             ap (λ (ds : List Cell). ds ++ rest_from w (parts - c.part) c.part (suc c.row)) (cells_one c e)
-            ∙ ap (λ (ds : List Cell). cell (kind_no c.list) c.at ∷ ds) (sym tail);
+            ∙ ap (λ (ds : List Cell). cell (kind_in c.list) c.at ∷ ds) (sym tail);
       }
 
 -- ---- saved: n doubles so far, c is the next
@@ -270,17 +217,17 @@ module _ {w : Chart} {parts : ℕ} {v : Five} {from : Cursor} where
         first = λ _. h;
       }
 
-  pub saving_turn : (old : List Float) (c r : Cursor) (n : ℕ) (x : Float) → Saving w parts v from old c n → n < 512 → x ≡ get_or (chosen v (kind_no c.list)) c.at nan → Stepped w parts c r
+  pub saving_turn : (old : List Float) (c r : Cursor) (n : ℕ) (x : Float) → Saving w parts v from old c n → n < 512 → x ≡ get_or (chosen v (kind_in c.list)) c.at nan → Stepped w parts c r
       → Saving w parts v from (set old n x) r (n + 1)
   saving_turn old c r n x s h e t =
-      let d : drop n (rest_of w parts from) ≡ cell (kind_no c.list) c.at ∷ rest_of w parts r = sym s.rest_is ∙ t.rest_is in
-      let here : get_or (rest_of w parts from) n no_cell ≡ cell (kind_no c.list) c.at = head_of (rest_of w parts from) (rest_of w parts r) n (cell (kind_no c.list) c.at) no_cell d in
+      let d : drop n (rest_of w parts from) ≡ cell (kind_in c.list) c.at ∷ rest_of w parts r = sym s.rest_is ∙ t.rest_is in
+      let here : get_or (rest_of w parts from) n no_cell ≡ cell (kind_in c.list) c.at = head_of (rest_of w parts from) (rest_of w parts r) n (cell (kind_in c.list) c.at) no_cell d in
       record {
         long = length-set old n x ∙ s.long;
         most = omega arith;
-        high = more_of (rest_of w parts from) (rest_of w parts r) n (cell (kind_no c.list) c.at) d;
+        high = more_of (rest_of w parts from) (rest_of w parts r) n (cell (kind_in c.list) c.at) d;
         within = t.within;
-        rest_is = tail_of (rest_of w parts from) (rest_of w parts r) n (cell (kind_no c.list) c.at) d;
+        rest_is = tail_of (rest_of w parts from) (rest_of w parts r) n (cell (kind_in c.list) c.at) d;
         kept =
             record {
               same = λ j b.
@@ -312,7 +259,7 @@ module _ {w : Chart} {parts : ℕ} {v : Five} {from : Cursor} where
 -- lists of the same lengths
 pub cells_same : (w : Chart) (parts : ℕ) (v u : Five) → length u.e ≡ length v.e → length u.f ≡ length v.f → length u.t ≡ length v.t → length u.o ≡ length v.o → length u.c ≡ length v.c
     → CellsFit w parts v → CellsFit w parts u
-cells_same w parts v u a b c d e f = record { there = λ p i h g. rw (same (kind_no (list_no w p))) (f.there p i h g) }
+cells_same w parts v u a b c d e f = record { there = λ p i h g. rw (same (kind_in (list_in w p))) (f.there p i h g) }
   where
     same : (k : Kind) → length (chosen u k) ≡ length (chosen v k)
     same permittivity = a
@@ -342,21 +289,21 @@ module _ {w : Chart} {parts : ℕ} {v : Five} {from : Cursor} {n : ℕ} {old : L
       some zero q = absurd (q refl)
       some (suc n) q = omega arith
 
-  pub putting_turn : (u t : Five) (c r : Cursor) (k : ℕ) → Putting w parts v from n old u c k → k < n → t ≡ set_double u (kind_no c.list) c.at (get_or old k nan) → CellsFit w parts t → Stepped w parts c r
+  pub putting_turn : (u t : Five) (c r : Cursor) (k : ℕ) → Putting w parts v from n old u c k → k < n → t ≡ set_double u (kind_in c.list) c.at (get_or old k nan) → CellsFit w parts t → Stepped w parts c r
       → Putting w parts v from n old t r (k + 1)
   unfolding put_cells
   putting_turn u t c r k p h e f s =
-      let d : drop k (rest_of w parts from) ≡ cell (kind_no c.list) c.at ∷ rest_of w parts r = sym p.rest_is ∙ s.rest_is in
+      let d : drop k (rest_of w parts from) ≡ cell (kind_in c.list) c.at ∷ rest_of w parts r = sym p.rest_is ∙ s.rest_is in
       let z : n - k ≡ suc (n - (k + 1)) = omega arith in
-      let y : take (n - k) (rest_of w parts c) ≡ cell (kind_no c.list) c.at ∷ take (n - (k + 1)) (rest_of w parts r) = rw (z, s.rest_is) refl in
+      let y : take (n - k) (rest_of w parts c) ≡ cell (kind_in c.list) c.at ∷ take (n - (k + 1)) (rest_of w parts r) = rw (z, s.rest_is) refl in
       record {
         high = omega arith;
         within = s.within;
         fits = f;
-        rest_is = tail_of (rest_of w parts from) (rest_of w parts r) k (cell (kind_no c.list) c.at) d;
+        rest_is = tail_of (rest_of w parts from) (rest_of w parts r) k (cell (kind_in c.list) c.at) d;
         put_is =
             ap (λ (x : Five). put_cells x (take (n - (k + 1)) (rest_of w parts r)) old (k + 1)) e
-            ∙ ap (put_cells (set_double u (kind_no c.list) c.at (get_or old k nan)) (take (n - (k + 1)) (rest_of w parts r)) old) (add-one k)
+            ∙ ap (put_cells (set_double u (kind_in c.list) c.at (get_or old k nan)) (take (n - (k + 1)) (rest_of w parts r)) old) (add-one k)
             ∙ sym (ap (λ (ds : List Cell). put_cells u ds old k) y)
             ∙ p.put_is;
       }

@@ -199,11 +199,6 @@ kept_store l ch m s c k = by ((changes l).bad c) (first_bad (rules l ch m) (reac
     by none (some j) t e = refl
     by (some y) f t e = refl
 
-words_match : (l : FullLattice) (ch : Choice) (m : ℕ) (s : Store) (e f t o c : List Float) (L : ℕ)
-    → level_matches l ch m (store_of s.ends (fixed s.forward_starts s.forward_columns s.turned_starts s.turned_columns s.operator_starts s.operator_columns) (five e f t o c)) L ≡ level_matches l ch m s L
-unfolding level_matches
-words_match l ch m s e f t o c L = refl
-
 all_match : (l : FullLattice) (ch : Choice) (m : ℕ) (s : Store) (n : ℕ)
     → all_to 11 (level_matches l ch m (store_of s.ends (fixed s.forward_starts s.forward_columns s.turned_starts s.turned_columns s.operator_starts s.operator_columns) (five [] [] [] [] []))) n ≡ all_to 11 (level_matches l ch m s) n
 unfolding all_to level_matches

@@ -8,6 +8,7 @@ use native.Mathlib.Omega.{arith}
 use native.Mathlib.Decide.{ℕ_discrete, dec_lt}
 use lib.ListN.{length}
 use lib.Ieee.{Float}
+use Rattle.std.proofs.lemmas.Bool.{cases_Bool}
 use Rattle.numbers.specs.declared.C64.{C64}
 use Rattle.numbers.specs.Places.{number_at, set_number}
 use Rattle.numbers.proofs.Equations.{places_is}
@@ -16,7 +17,6 @@ use Rattle.lattice.specs.declared.lattice.Lattice.{Lattice}
 use Rattle.lattice.specs.Check.{Verdict, accepted, entry_refused, and_then, is_sound, bad_number, Given, given, stretches, check_grid, check_scalars, check_lengths, first_bad, check_entries, check_of, check_stretches}
 use Rattle.lattice.specs.Grid.{unknowns_of, Limits}
 use Rattle.lattice.proofs.CheckLaws.{length_good, lengths_none, entry_bad, entry_good, entries_none, bad_turn, bad_stop, bad_end, stretches_by_check, all_by_check, all_sound}
-use Rattle.store.proofs.TestLaws.{bool?}
 use Rattle.lattice.proofs.CheckLaws.{and_sound, and_first, and_second}
 
 -- ---- the first bad number of a list, from place k of n on
@@ -34,7 +34,7 @@ module _ (xs : List Float) (n : ℕ) where
         | yes z ↦ absurd (false≢true (sym g ∙ (rw z at h)))
         | no z ↦ omega (arith, bad_turn xs n k (omega arith) g, some_bad j b h d (k + 1) (omega arith) (omega arith))
       ])
-      (bool? (bad_number (number_at xs k)))
+      (cases_Bool (bad_number (number_at xs k)))
 
   pub none_bad : ((j : ℕ) → j < n → bad_number (number_at xs j) ≡ false) → first_bad xs n 0 ≡ n
   none_bad h = let z : n - 0 ≡ n = omega arith in rw z at (all_good h n 0 (omega arith))
@@ -43,7 +43,7 @@ module _ (xs : List Float) (n : ℕ) where
   one_bad j b h = let z : n - 0 ≡ n = omega arith in rw z at (some_bad j b h n 0 (omega arith) (omega arith))
 
   good_all : n ≤ first_bad xs n 0 → (j : ℕ) → j < n → bad_number (number_at xs j) ≡ false
-  good_all h j b = ⊎_elim (λ e. absurd (omega (arith, one_bad j b e))) (λ e. e) (bool? (bad_number (number_at xs j)))
+  good_all h j b = ⊎_elim (λ e. absurd (omega (arith, one_bad j b e))) (λ e. e) (cases_Bool (bad_number (number_at xs j)))
 
 -- ---- an accepted list, and one with a number set
 

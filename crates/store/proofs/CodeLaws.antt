@@ -2,7 +2,7 @@
 -- Assumes nothing.
 use Prim.Native.Nat.{ℕ, zero, suc, ◌+◌, ◌<◌, ◌≤◌}
 use mathlib.Core.Path.{◌≡◌, refl, sym, ap, ◌∙◌}
-use mathlib.Core.Bool.{Bool, true, false, cond, ◌&&◌}
+use mathlib.Core.Bool.{Bool, true, false, cond, ◌&&◌, and-true, and_comm}
 use native.Mathlib.Omega.{arith}
 use native.Mathlib.Decide.{ℕ_discrete, dec_lt}
 use borrow.Author.Tests.{eq-eqb, ne_eqb, lt-ltb, le-ltb}
@@ -49,15 +49,6 @@ lower_less a b n k h = rw (ne_eqb a 0 n, ne_eqb b 0 k, lt-ltb a b h) refl
 
 pub lower_more : (a b : ℕ) → (a ≡ 0 → ⊥) → (b ≡ 0 → ⊥) → b ≤ a → b ≡ lower_of a b
 lower_more a b n k h = rw (ne_eqb a 0 n, ne_eqb b 0 k, le-ltb a b h) refl
-
-pub lower_low : (a b k : ℕ) → a ≤ k → b ≤ k → lower_of a b ≤ k
-lower_low a b k x y = go (ℕ_discrete a 0) (ℕ_discrete b 0) (dec_lt a b)
-  where
-    go : Dec (a ≡ 0) → Dec (b ≡ 0) → Dec (a < b) → lower_of a b ≤ k
-    go (yes z) q r = rw (lower_left a b z) y
-    go (no z) (yes q) r = rw (lower_right a b q) x
-    go (no z) (no q) (yes r) = rw (sym (lower_less a b z q r)) x
-    go (no z) (no q) (no r) = rw (sym (lower_more a b z q (omega arith))) y
 
 noted_low : (a n : ℕ) (x : Bool) → a ≤ n → noted a n x ≤ suc n
 noted_low a n x h = go (ℕ_discrete a 0) x
@@ -144,11 +135,7 @@ module _ (l : FullLattice) (m : ℕ) (f : ℕ → C64) (turned : (L : ℕ) → a
     where
       go : (e a b o : Bool) → (a ≡ true → b ≡ true) → ((e && (true && (a && (b && true)))) && o) ≡ ((e && a) && o)
       go false a b o h = refl
-      go true a b o h = ap (λ (x : Bool). x && o) (absorbed a b true h ∙ unit a)
-        where
-          unit : (a : Bool) → (a && true) ≡ a
-          unit true = refl
-          unit false = refl
+      go true a b o h = ap (λ (x : Bool). x && o) (absorbed a b true h ∙ and-true a)
 
   pub level_rediscretized : (L : ℕ) → level_fine l Rediscretized (suc m) f (suc L) ≡ ((weights_fine l f L && averaged_fine l (suc m) f L) && scale_fine l f L)
   unfolding level_fine transfer_fine weights_fine averaged_fine operator_fine scale_fine
@@ -157,18 +144,12 @@ module _ (l : FullLattice) (m : ℕ) (f : ℕ → C64) (turned : (L : ℕ) → a
       (all_finite (tabulate (volumes_at l L) (edges_on l L) 0) && shares_finite (turned_at l f L) (volumes_at l L) (edges_on l (suc L)))
       (all_finite (operator_numbers l Rediscretized (suc m) f (suc L))) (turned L)
     where
-      ends : (s o : Bool) → (s && o) ≡ (o && s)
-      ends true true = refl
-      ends true false = refl
-      ends false true = refl
-      ends false false = refl
-
       go : (e v a b s o : Bool) → (a ≡ true → b ≡ true) → ((e && (v && (a && (b && s)))) && o) ≡ (((e && a) && (v && o)) && s)
       go false v a b s o h = refl
       go true false false b s o h = refl
       go true false true b s o h = refl
       go true true false b s o h = refl
-      go true true true b s o h = rw (h refl) (ends s o)
+      go true true true b s o h = rw (h refl) (and_comm s o)
 
   -- level 0's operator is not stored
   pub level_first : (ch : Choice) → level_fine l ch (suc m) f 0 ≡ true

@@ -3,13 +3,14 @@
 use Prim.Native.Nat.{ℕ, zero, suc, ◌+◌, ◌*◌, ◌/◌, ◌%◌, ◌≤◌, ◌<◌, ◌^◌, min}
 use mathlib.Core.Path.{◌≡◌, refl, sym, ap, ◌∙◌, subst}
 use mathlib.Core.Logic.{◌⊎◌, inl, inr}
-use mathlib.Core.Bool.{Bool, true, false, ◌&&◌, ◌||◌, false≢true}
+use mathlib.Core.Bool.{Bool, true, false, ◌&&◌, ◌||◌, false≢true, and_assoc}
 use mathlib.Core.List.{List}
 use native.Mathlib.Omega.{arith}
 use native.Mathlib.Decide.{dec_lt}
 use lib.Dec.{eqb, leb, ltb}
 use lib.ListN.{length, get_or, set}
 use borrow.Author.Tests.{eqb-true, eqb-false, lt-leb, le-leb}
+use Rattle.std.proofs.lemmas.Bool.{and_from, cases_Bool, false_from_ne_true, and_parts}
 use Rattle.numbers.specs.declared.terms.Part.{Part}
 use Rattle.numbers.specs.Lists.{rows, Laid, start_of, starts_of, sum_to}
 use Rattle.numbers.specs.Terms.{Term}
@@ -28,11 +29,10 @@ use Rattle.lattice.specs.Lattice.{FullLattice}
 use Rattle.lattice.specs.Levels.{line_at}
 use Rattle.weights.specs.Prolongation.{weight_columns}
 use Rattle.weights.specs.TwoLevels.{TwoLevels, two_at, two_of, fine_grid, grid_with}
-use Rattle.weights.specs.Tables.{columns_in, PlacesOf}
+use Rattle.weights.specs.Tables.{columns_in}
 use Rattle.weights.proofs.TwoLevelLaws.{fine_grid_lem, coarse_grid_lem}
 use Rattle.weights.proofs.MeaningLaws.{Slotted as Both, slots_in, row_columns_lem}
 use Rattle.weights.proofs.RepeatLaws.{row_room}
-use Rattle.weights.proofs.RowLaws.{place_small}
 use Rattle.operators.specs.LevelLists.{edges_on}
 use Rattle.operators.specs.Levels.{grid_at, lattice_at, averaged_on, rediscretized_at, pattern_row, base_relations}
 use Rattle.operators.specs.Numbered.{word_count}
@@ -41,7 +41,6 @@ use Rattle.operators.proofs.GalerkinPattern.{grid_first}
 use Rattle.operators.proofs.LevelListLaws.{columns_most}
 use Rattle.operators.proofs.RangeLaws.{fine_edges_lem}
 use Rattle.operators.proofs.StencilLaws.{stencil_most}
-use Rattle.operators.proofs.RelationLaws.{and_both as and_told}
 use Rattle.store.specs.Store.{Store}
 use Rattle.store.specs.Layout.{blank, forward_cols, turned_cols, operator_cols, next_edges, first_stored, forward_count, turned_count, operator_count, stored_count, forward_off, turned_off, operator_off, starts_off, stored_starts, ends_off}
 use Rattle.store.specs.Setup.{ends_part, all_to}
@@ -52,15 +51,17 @@ use Rattle.store.specs.Calls.{matches, level_matches}
 use Rattle.store.specs.Compare.{Lowest, rows_match, PartRoom, lines_match, transfer_match, transfer_ok, operator_ok, Gives, Slotted, TurnedBy, named_by, Walkable, Begins}
 use Rattle.store.specs.declared.Choice.{Choice}
 use Rattle.store.specs.declared.Choice.TheVariants.{Galerkin, Rediscretized}
-use Rattle.store.proofs.TestLaws.{bool?, and_both, and_assoc}
 use Rattle.store.proofs.VerdictLaws.{all_pass}
-use Rattle.store.proofs.MatchLaws.{never_true, start_told, rows_match_agree, room_agree}
+use Rattle.store.proofs.MatchLaws.{start_told, rows_match_agree, room_agree}
 use Rattle.store.proofs.TurnLaws.{turned_agree, walk_bad, walk_end, given_is, walkable}
 use Rattle.store.proofs.ColumnLaws.{turned_cols_are, turned_many}
 use Rattle.store.proofs.RangeLaws.{ranges}
 use Rattle.store.proofs.NeedLaws.{ends_there, ends_few, none_end, bad_here, relations_first, relations_long}
 use Rattle.store.proofs.PatternLaws.{pattern_cols, own_pattern_cols}
-use Rattle.store.proofs.LineLaws.{lines_two}
+use Rattle.store.proofs.LineLaws.{level_two}
+use Rattle.store.specs.Hierarchy.{LevelPair}
+use Rattle.weights.specs.Pair.{two}
+use Rattle.weights.specs.declared.pair.Pair.{Pair}
 use Rattle.store.proofs.EndLaws.{held_ends}
 use Rattle.store.proofs.StepLaws.{part_at, starts_later, terms_later}
 use Rattle.store.proofs.SizeLaws.{stored_rows, stored_later, rows_stored, count_stored, edges_few, forward_low, turned_low, operator_low}
@@ -72,7 +73,7 @@ lowest_both : {a b : ℕ → Bool} {n x y r : ℕ} → Lowest a n x → Lowest b
 lowest_both {a} {b} {n} {x} {y} {r} u v e =
     record {
       low = omega (arith, u.low, v.low, e);
-      before = λ L h. and_both (a L) (b L) (u.before L (omega arith)) (v.before L (omega arith));
+      before = λ L h. and_from (a L) (b L) (u.before L (omega arith)) (v.before L (omega arith));
       here = λ h. go h (dec_lt x y);
     }
   where
@@ -80,7 +81,7 @@ lowest_both {a} {b} {n} {x} {y} {r} u v e =
     go h (yes c) = let z : x ≡ r = omega arith in rw (rw z at (u.here (omega arith))) refl
     go h (no c) =
         let z : y ≡ r = omega arith in
-        never_true (a r && b r) (λ t. false≢true (sym (rw z at (v.here (omega arith))) ∙ (and_told (a r) (b r) t).1))
+        false_from_ne_true (a r && b r) (λ t. false≢true (sym (rw z at (v.here (omega arith))) ∙ (and_parts (a r) (b r) t).1))
 
 -- of tests that agree
 lowest_agree : {a b : ℕ → Bool} {n r : ℕ} → ((L : ℕ) → a L ≡ b L) → Lowest a n r → Lowest b n r
@@ -113,8 +114,8 @@ line_told l es L t a q h e =
     let x = matches es (ends_off l (3 * L)) (ends_part l (3 * L)) in
     let y = matches es (ends_off l (3 * L + 1)) (ends_part l (3 * L + 1)) in
     let z = matches es (ends_off l (3 * L + 2)) (ends_part l (3 * L + 2)) in
-    let u = and_told x (y && z) t in
-    let v = and_told y z u.1 in
+    let u = and_parts x (y && z) t in
+    let v = and_parts y z u.1 in
     go a h e u.0 v.0 v.1
   where
     go : (a : ℕ) → a < 3 → q ≡ 3 * L + a → matches es (ends_off l (3 * L)) (ends_part l (3 * L)) ≡ true → matches es (ends_off l (3 * L + 1)) (ends_part l (3 * L + 1)) ≡ true
@@ -130,7 +131,7 @@ ends_start {l} = record { high = omega arith; place = sym (sum_to_zero (λ i. le
 
 lines_passed : {l : FullLattice} {m : ℕ} {es : List ℕ} {next q : ℕ} → EndsGoing l m es next q → (L : ℕ) → 3 * L + 2 < q → lines_match l es L ≡ true
 lines_passed u L h =
-    and_both _ _ (u.passed (3 * L) (omega arith)) (and_both _ _ (u.passed (3 * L + 1) (omega arith)) (u.passed (3 * L + 2) (omega arith)))
+    and_from _ _ (u.passed (3 * L) (omega arith)) (and_from _ _ (u.passed (3 * L + 1) (omega arith)) (u.passed (3 * L + 2) (omega arith)))
 
 module _ {l : FullLattice} (limits : Limits l.grid) {m : ℕ} {lines : List Line} (has : HasLines l m lines) {es : List ℕ} {next q : ℕ} (u : EndsGoing l m es next q) (h : q < 3 * (m + 1)) where
   low : q < 3 * suc m
@@ -151,7 +152,7 @@ module _ {l : FullLattice} (limits : Limits l.grid) {m : ℕ} {lines : List Line
       rw z (record {
         high = low;
         place = omega (arith, u.place, ends_there l limits m has q low, sum_to_suc (λ i. length (line_at l (i % 3) (i / 3))) q);
-        passed = λ i b. go i (bool? (eqb i q)) b;
+        passed = λ i b. go i (cases_Bool (eqb i q)) b;
       })
     where
       go : (i : ℕ) → (eqb i q ≡ true) ⊎ (eqb i q ≡ false) → i < suc q → matches es (ends_off l i) (ends_part l i) ≡ true
@@ -163,7 +164,7 @@ module _ {l : FullLattice} (limits : Limits l.grid) {m : ℕ} {lines : List Line
       record {
         low = omega arith;
         before = λ L b. lines_passed u L (omega arith);
-        here = λ b. never_true (lines_match l es (q / 3)) (λ t. false≢true (sym f ∙ line_is e ∙ line_told l es (q / 3) t (q % 3) q (omega arith) (omega arith)));
+        here = λ b. false_from_ne_true (lines_match l es (q / 3)) (λ t. false≢true (sym f ∙ line_is e ∙ line_told l es (q / 3) t (q % 3) q (omega arith) (omega arith)));
       }
 
 -- all lines have passed
@@ -201,7 +202,7 @@ level_room cols rows_on {o} {L} {m} e h a b =
 
 -- the last start of rows that stand there
 last_told : (cols : ℕ → List ℕ) (n : ℕ) (o : Part) (ss cs : List ℕ) → rows_match cols n o ss cs ≡ true → get_or ss (o.s + n) 0 ≡ start_of cols n
-last_told cols n o ss cs t = start_told cols n o.s ss (and_told (matches ss o.s (starts_of cols n)) (matches cs o.k (rows cols n)) t).0 n (omega arith)
+last_told cols n o ss cs t = start_told cols n o.s ss (and_parts (matches ss o.s (starts_of cols n)) (matches cs o.k (rows cols n)) t).0 n (omega arith)
 
 -- ---- transfers
 
@@ -246,7 +247,7 @@ module _ {l : FullLattice} {m : ℕ} {ss cs ts us : List ℕ} {o t : Part} {L : 
 
   module _ {b : Bool} (e : b ≡ parts_match l ss cs ts us o t L) (f : b ≡ true) where
     both : (rows_match (forward_cols l L) (edges_on l L) o ss cs ≡ true) × (rows_match (turned_cols l L) (edges_on l (suc L)) t ts us ≡ true)
-    both = and_told (rows_match (forward_cols l L) (edges_on l L) o ss cs) (rows_match (turned_cols l L) (edges_on l (suc L)) t ts us) (sym e ∙ f)
+    both = and_parts (rows_match (forward_cols l L) (edges_on l L) o ss cs) (rows_match (turned_cols l L) (edges_on l (suc L)) t ts us) (sym e ∙ f)
 
     forward_last : {n : ℕ} → n ≡ edges_on l L → get_or ss (o.s + n) 0 ≡ forward_count l L
     forward_last en = ap (λ (i : ℕ). get_or ss (o.s + i) 0) en ∙ last_told (forward_cols l L) (edges_on l L) o ss cs both.0
@@ -274,7 +275,7 @@ module _ {l : FullLattice} {m : ℕ} {ss cs ts us : List ℕ} {o t : Part} {L : 
           high = h;
           o_is = eo ∙ part_behind (edges_on l) (forward_count l) u.o_is en (forward_last en);
           t_is = et ∙ part_behind (next_edges l) (turned_count l) u.t_is ek (turned_last ek);
-          passed = λ i b. go i (bool? (eqb i L)) b;
+          passed = λ i b. go i (cases_Bool (eqb i L)) b;
         })
       where
         go : (i : ℕ) → (eqb i L ≡ true) ⊎ (eqb i L ≡ false) → i < suc L → transfer_match l ss cs ts us i ≡ true
@@ -290,19 +291,18 @@ transfers_end {l} {m} {ss} {cs} {ts} {us} {L = L} u h = record { low = omega ari
     go i (no c) b = rw (le-leb m i (omega arith)) refl
 
 -- the forward rows of two neighbouring levels, as the code has their lines
-module _ (l : FullLattice) (limits : Limits l.grid) (m : ℕ) {lines : List Line} (has : HasLines l m lines) {L : ℕ} (low : L < m) {fine coarse : Three}
-    (p : fine ≡ three_in lines L) (q : coarse ≡ three_in lines (L + 1)) {o : Part} {ss cs : List ℕ} (u : PartRoom (forward_cols l L) (edges_on l L) o ss cs) where
-  pub forward_asked : PartRoom (weight_columns (two_of l fine coarse)) (unknowns_of (fine_grid (two_of l fine coarse))) o ss cs
+module _ {l : FullLattice} (limits : Limits l.grid) {L : ℕ} {pair : Pair} (p : LevelPair l L pair) {o : Part} {ss cs : List ℕ} (u : PartRoom (forward_cols l L) (edges_on l L) o ss cs) where
+  pub forward_asked : PartRoom (weight_columns (two pair)) (unknowns_of (fine_grid (two pair))) o ss cs
   unfolding forward_cols
   forward_asked =
-      subst (λ (t : TwoLevels). PartRoom (weight_columns t) (unknowns_of (fine_grid t)) o ss cs) (sym (lines_two l limits m has low p q))
+      subst (λ (t : TwoLevels). PartRoom (weight_columns t) (unknowns_of (fine_grid t)) o ss cs) (sym (level_two p limits))
       (subst (λ (n : ℕ). PartRoom (weight_columns (two_at l L)) n o ss cs) (sym (fine_edges_lem l L)) u)
 
-  pub forward_told : {b : Bool} → b ≡ rows_match (weight_columns (two_of l fine coarse)) (unknowns_of (fine_grid (two_of l fine coarse))) o ss cs
+  pub forward_told : {b : Bool} → b ≡ rows_match (weight_columns (two pair)) (unknowns_of (fine_grid (two pair))) o ss cs
       → b ≡ rows_match (forward_cols l L) (edges_on l L) o ss cs
   unfolding forward_cols
   forward_told e =
-      e ∙ ap (λ (t : TwoLevels). rows_match (weight_columns t) (unknowns_of (fine_grid t)) o ss cs) (lines_two l limits m has low p q)
+      e ∙ ap (λ (t : TwoLevels). rows_match (weight_columns t) (unknowns_of (fine_grid t)) o ss cs) (level_two p limits)
       ∙ ap (λ (n : ℕ). rows_match (weight_columns (two_at l L)) n o ss cs) (fine_edges_lem l L)
 
 -- from the tables of the slots
@@ -321,18 +321,8 @@ module _ {l : FullLattice} {fine coarse : Three} {gf gc : Grid3d} {ps ns : List 
   pub weights_fine_lem : Limits gf
   weights_fine_lem = rw t.fine_is t.paired.fine_limits
 
-  weights_coarse : Limits gc
-  weights_coarse = rw t.coarse_is t.paired.coarse_limits
-
   pub weights_count : {n : ℕ} → n ≡ unknowns_of gf → n ≡ unknowns_of (fine_grid (two_of l fine coarse))
   weights_count e = e ∙ ap unknowns_of t.fine_is
-
-  pub weights_asked : {p : Position} {r : ℕ} → r < unknowns_of gf → p ≡ at_of gf r
-      → Limits gc × (PlacesOf gc ps ns × (((p.component < 3) × (p.k < 64)) × (((p.i < 64) × (p.j < 64)) × (0 + 8 ≤ 2 ^ 40))))
-  weights_asked h e =
-      let i = at_in weights_fine_lem h e in
-      let k = place_small weights_fine_lem i in
-      (weights_coarse, (slots_in t, ((i.c_in, k.2), ((k.0, k.1), omega arith))))
 
   module _ {p : Position} {r : ℕ} {xs ys : List ℕ} {v : ℕ} (h : r < unknowns_of gf) (e : p ≡ at_of gf r) (w : Laid set xs 0 (columns_in gc ps ns p) ys v) where
     pub weights_laid : Laid set xs 0 (weight_columns (two_of l fine coarse) r) ys v
@@ -519,7 +509,7 @@ module _ {l : FullLattice} (limits : Limits l.grid) (ch : Choice) {m : ℕ} {ss 
             high = h;
             gives = g;
             o_is = eo ∙ p ∙ (λ i. part_at (a i) (sym (terms_later l ch m L) i));
-            passed = λ i c. go i (bool? (eqb i (suc L))) c;
+            passed = λ i c. go i (cases_Bool (eqb i (suc L))) c;
           })
         where
           go : (i : ℕ) → (eqb i (suc L) ≡ true) ⊎ (eqb i (suc L) ≡ false) → i < suc (suc L) → operator_ok l ch m ss cs i ≡ true
@@ -545,5 +535,5 @@ first_is l ch m s u v w p q = lowest_first 11 (level_matches l ch m s) (lowest_a
         let b = matches s.forward_columns (forward_off l L) (rows (forward_cols l L) (edges_on l L)) in
         let c = matches s.turned_starts (starts_off (next_edges l) L) (starts_of (turned_cols l L) (edges_on l (suc L))) in
         let d = matches s.turned_columns (turned_off l L) (rows (turned_cols l L) (edges_on l (suc L))) in
-        let e : ((a && b) && (c && d)) ≡ (a && (b && (c && d))) = sym (and_assoc a b (c && d)) in
+        let e : ((a && b) && (c && d)) ≡ (a && (b && (c && d))) = and_assoc a b (c && d) in
         ap (λ (t : Bool). lines_match l s.ends L && ((leb m L || t) && operator_ok l ch m s.operator_starts s.operator_columns L)) e

@@ -1,6 +1,6 @@
 -- The phases put together over the record of lists: what each asks for, and the fill as one equation.
 -- Assumes nothing.
-use Prim.Native.Nat.{ℕ, zero, suc, ◌+◌, ◌*◌, ◌≤◌, ◌<◌}
+use Prim.Native.Nat.{ℕ, zero, suc, ◌*◌, ◌≤◌, ◌<◌}
 use native.Mathlib.Omega.{arith}
 use mathlib.Core.Path.{◌≡◌, refl, sym, ap, ◌∙◌}
 use mathlib.Core.Bool.{Bool, true, false, cond, ◌&&◌}
@@ -29,7 +29,7 @@ use Rattle.store.specs.Ready.{ChosenRoom, ScalingAsked, chosen_fine, operators_c
 use Rattle.store.specs.Steps.{filling, code_of, sole_code, after_level, fill_code, fill_of}
 use Rattle.store.specs.declared.Choice.{Choice}
 use Rattle.store.specs.declared.Choice.TheVariants.{Galerkin, Rediscretized}
-use Rattle.store.proofs.CodeLaws.{lower_right, lower_low, first_low, first_both, first_same, seven_of, seven_is, level_galerkin, level_rediscretized, level_first}
+use Rattle.store.proofs.CodeLaws.{lower_right, first_low, first_both, first_same, seven_of, seven_is, level_galerkin, level_rediscretized, level_first}
 
 -- ---- room
 
@@ -141,18 +141,8 @@ module _ {m : ℕ} (a b c : ℕ) {bad : ℕ} (n : m ≡ 0 → ⊥) (e : bad ≡ 
   fill_at zero h = absurd (h refl)
   fill_at (suc k) h = refl
 
-  after_some : (k : ℕ) → (k ≡ 0 → ⊥) → k + 1 ≡ after_level k
-  after_some zero h = absurd (h refl)
-  after_some (suc k) h = omega arith
-
   pub code_none : bad ≡ 0 → 0 ≡ fill_code m a b c
   code_none z = sym (fill_at m n ∙ ap after_level (sym e ∙ z))
-
-  pub code_some : (bad ≡ 0 → ⊥) → bad + 1 ≡ fill_code m a b c
-  code_some h = after_some bad h ∙ ap after_level e ∙ sym (fill_at m n)
-
-  pub code_small : (a ≤ m) × (b ≤ suc m) × (c ≤ m) × (m ≤ 11) → bad ≤ 12
-  code_small h = let x : lower_of (lower_of a b) c ≤ suc m = lower_low (lower_of a b) c (suc m) (lower_low a b (suc m) (omega (arith, h.0)) h.1) (omega (arith, h.2)) in omega (arith, h.3)
 
 -- ---- all lists
 

@@ -6,6 +6,7 @@ use mathlib.Core.Bool.{true}
 use mathlib.Core.List.{List, [], ◌∷◌, map}
 use native.Mathlib.Omega.{arith}
 use lib.ListN.{length, get_or}
+use Rattle.std.proofs.lemmas.Bool.{and_from, and_parts}
 use Rattle.numbers.specs.declared.C64.{C64}
 use Rattle.numbers.specs.Complex.{finite, no_number}
 use Rattle.numbers.specs.Lists.{rows, all_finite, In}
@@ -14,7 +15,6 @@ use Rattle.numbers.specs.Transpose.{turned_row, turned_reads}
 use Rattle.numbers.proofs.EachLaws.{length_numbers}
 use Rattle.numbers.proofs.Equations.{rows_zero, rows_suc, all_finite_nil, all_finite_cons, start_of_is}
 use Rattle.numbers.proofs.GatheredLaws.{finite_append}
-use Rattle.numbers.proofs.Laws.{and_left, and_right}
 use Rattle.numbers.proofs.ListLaws.{through}
 use Rattle.numbers.proofs.TransposedLaws.{reads_low}
 use Rattle.numbers.proofs.Tutorial.{numbers_rows, turned_reads_lem, number_no, start_columns}
@@ -24,20 +24,19 @@ use Rattle.operators.specs.Levels.{forward_at, turned_at}
 use Rattle.operators.proofs.RangeLaws.{fine_edges_lem}
 use Rattle.store.specs.Setup.{forward_numbers, turned_numbers}
 use Rattle.operators.proofs.Equations.{turned_at_is}
-use Rattle.store.proofs.TestLaws.{and_both}
 
 finite_at : (vs : List C64) → all_finite vs ≡ true → (q : ℕ) (d : C64) → q < length vs → finite (get_or vs q d) ≡ true
 finite_at [] e q d h = absurd (omega arith)
-finite_at (v ∷ vs) e zero d h = and_left (finite v) (all_finite vs) (sym (all_finite_cons v vs) ∙ e)
-finite_at (v ∷ vs) e (suc q) d h = finite_at vs (and_right (finite v) (all_finite vs) (sym (all_finite_cons v vs) ∙ e)) q d (omega arith)
+finite_at (v ∷ vs) e zero d h = (and_parts (finite v) (all_finite vs) (sym (all_finite_cons v vs) ∙ e)).0
+finite_at (v ∷ vs) e (suc q) d h = finite_at vs ((and_parts (finite v) (all_finite vs) (sym (all_finite_cons v vs) ∙ e)).1) q d (omega arith)
 
 finite_map : (g : ℕ → C64) (qs : List ℕ) → ((q : ℕ) → In q qs → finite (g q) ≡ true) → all_finite (map g qs) ≡ true
 finite_map g [] h = all_finite_nil
-finite_map g (q ∷ qs) h = all_finite_cons (g q) (map g qs) ∙ and_both (finite (g q)) (all_finite (map g qs)) (h q (inl refl)) (finite_map g qs (λ p i. h p (inr i)))
+finite_map g (q ∷ qs) h = all_finite_cons (g q) (map g qs) ∙ and_from (finite (g q)) (all_finite (map g qs)) (h q (inl refl)) (finite_map g qs (λ p i. h p (inr i)))
 
 finite_rows : (vs : ℕ → List C64) → ((r : ℕ) → all_finite (vs r) ≡ true) → (n : ℕ) → all_finite (rows vs n) ≡ true
 finite_rows vs h zero = ap all_finite (rows_zero vs) ∙ all_finite_nil
-finite_rows vs h (suc n) = ap all_finite (rows_suc vs n) ∙ finite_append (rows vs n) (vs n) ∙ and_both (all_finite (rows vs n)) (all_finite (vs n)) (finite_rows vs h n) (h n)
+finite_rows vs h (suc n) = ap all_finite (rows_suc vs n) ∙ finite_append (rows vs n) (vs n) ∙ and_from (all_finite (rows vs n)) (all_finite (vs n)) (finite_rows vs h n) (h n)
 
 turns : (row : ℕ → List Term) (n : ℕ) → all_finite (numbers_of (rows row n)) ≡ true → (c : ℕ) → all_finite (numbers_of (turned_row row n c)) ≡ true
 turns row n e c =

@@ -2,7 +2,7 @@
 use Prim.Native.Nat.{ℕ, zero, suc, ◌≤◌}
 use mathlib.Core.Path.{◌≡◌, refl, sym, ap, ◌∙◌}
 use mathlib.Core.Logic.{inl, inr, ⊎_elim}
-use mathlib.Core.Bool.{Bool, true, false, ◌&&◌, cond}
+use mathlib.Core.Bool.{Bool, true, false, ◌&&◌, cond, and-true, and_assoc}
 use mathlib.Core.List.{List, ◌∷◌, [], ◌++◌}
 use mathlib.Core.Option.{Option, none, some}
 use native.Mathlib.Omega.{arith}
@@ -45,7 +45,6 @@ use Rattle.store.proofs.RankLaws.{full_in}
 use Rattle.store.proofs.SetupLaws.{load_sizes, load_given}
 use Rattle.store.proofs.StoreLaws.{laws}
 use Rattle.store.proofs.WorkLaws.{row_fine_lem}
-use Rattle.store.proofs.TestLaws.{and_assoc, and_true}
 
 -- ---- rows that pass a test: the level of the first that does not, and whether all do
 
@@ -89,11 +88,11 @@ first_level_lem v P k (r ∷ rs) h = go (P r) (first_level_lem v P k rs (λ q j.
 all_append : (P : Row → Bool) (xs ys : List Row) → all_in_lem P (xs ++ ys) ≡ (all_in_lem P xs && all_in_lem P ys)
 unfolding all_in_lem
 all_append P [] ys = refl
-all_append P (x ∷ xs) ys = ap (λ (b : Bool). P x && b) (all_append P xs ys) ∙ and_assoc (P x) (all_in_lem P xs) (all_in_lem P ys)
+all_append P (x ∷ xs) ys = ap (λ (b : Bool). P x && b) (all_append P xs ys) ∙ sym (and_assoc (P x) (all_in_lem P xs) (all_in_lem P ys))
 
 -- rows before others: the last test stays apart
 all_before : (P : Row → Bool) (xs ys : List Row) (a b c : Bool) → all_in_lem P xs ≡ a → all_in_lem P ys ≡ (b && c) → all_in_lem P (xs ++ ys) ≡ ((a && b) && c)
-all_before P xs ys a b c e f = all_append P xs ys ∙ (λ i. e i && f i) ∙ and_assoc a b c
+all_before P xs ys a b c e f = all_append P xs ys ∙ (λ i. e i && f i) ∙ sym (and_assoc a b c)
 
 -- a test of n rows that goes row by row
 module _ (P : Row → Bool) (f : ℕ → Row) (all test : ℕ → Bool) (start : all 0 ≡ true) (next : (n : ℕ) → all (suc n) ≡ (all n && test n)) (same : (r : ℕ) → P (f r) ≡ test r) where
@@ -102,7 +101,7 @@ module _ (P : Row → Bool) (f : ℕ → Row) (all test : ℕ → Bool) (start :
   all_rows zero = ap (all_in_lem P) (tabulate_zero f 0) ∙ sym start
   all_rows (suc n) =
       ap (all_in_lem P) (tabulate_more f n 0 n (omega arith)) ∙ all_append P (tabulate f n 0) (f n ∷ [])
-      ∙ (λ i. all_rows n i && (P (f n) && true)) ∙ ap (λ (b : Bool). all n && b) (and_true (P (f n)) ∙ same n) ∙ sym (next n)
+      ∙ (λ i. all_rows n i && (P (f n) && true)) ∙ ap (λ (b : Bool). all n && b) (and-true (P (f n)) ∙ same n) ∙ sym (next n)
 
 -- ---- as a row is worked out, or at the end: the same numbers
 
@@ -176,7 +175,7 @@ module _ (l : FullLattice) (ch : Choice) (f : ℕ → C64) where
       let R = turned_at l f L in
       let v = volumes_at l L in
       all_rows P (share L) (shares_finite R v) (share_finite R v) (shares_finite_zero R v) (shares_finite_suc R v)
-      (λ c. all_finite_cons (inverse_shares_at l f L c) [] ∙ (λ i. finite (inverse_shares_at l f L c) && all_finite_nil i) ∙ and_true (finite (inverse_shares_at l f L c))
+      (λ c. all_finite_cons (inverse_shares_at l f L c) [] ∙ (λ i. finite (inverse_shares_at l f L c) && all_finite_nil i) ∙ and-true (finite (inverse_shares_at l f L c))
       ∙ ap (λ (g : ℕ → C64). finite (g c)) (inverse_shares_at_is l f L) ∙ sym (share_fine R v c)) n
 
   only_fine_lem : (c : Choice) (rs : List Row) → all_in_lem P (only c rs) ≡ only_fine c (all_in_lem P rs)

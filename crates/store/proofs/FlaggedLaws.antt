@@ -4,10 +4,11 @@ use Prim.Native.Nat.{ℕ, zero, suc, ◌+◌, ◌-◌, ◌*◌, ◌/◌, ◌%◌
 use mathlib.Core.Path.{◌≡◌, refl, sym, ap, subst, ◌∙◌}
 use mathlib.Core.Logic.{⊎_elim}
 use mathlib.Core.List.{List, [], ◌∷◌, ◌++◌, append_assoc, append-nil}
-use mathlib.Core.Bool.{Bool, true, false, cond, ◌&&◌, false≢true}
+use mathlib.Core.Bool.{Bool, true, false, cond, ◌&&◌, false≢true, and-true}
 use native.Mathlib.Omega.{arith}
 use lib.ListN.{length}
 use lib.Ieee.{Float}
+use Rattle.std.proofs.lemmas.Bool.{cases_Bool}
 use Rattle.numbers.specs.declared.C64.{C64}
 use Rattle.numbers.specs.Complex.{finite}
 use Rattle.numbers.specs.Places.{set_number}
@@ -22,7 +23,6 @@ use Rattle.store.specs.Flagged.{RowRenewed, RowTaken}
 use Rattle.store.specs.Parts.{row_by, size_by, part_size, part_row, part_off, flag_at, flagged_to, flagged_part}
 use Rattle.store.specs.declared.Choice.{Choice}
 use Rattle.store.proofs.SpaceLaws.{lawful}
-use Rattle.store.proofs.TestLaws.{bool?, and_true}
 use Rattle.store.proofs.WorkLaws.{step_laid, row_fine_lem}
 use Rattle.store.proofs.WorkedLaws.{worked_none, worked_row, worked_bad, worked_then, worked_stop}
 
@@ -82,7 +82,7 @@ pub number_laid : (xs : List Float) (k : ℕ) (v : C64) → set_number xs k v �
 number_laid xs k v = sym (laid_by_cons set_number xs k v [] ∙ laid_by_nil set_number (set_number xs k v) (suc k))
 
 pub number_finite : (v : C64) → finite v ≡ all_finite (v ∷ [])
-number_finite v = sym (all_finite_cons v [] ∙ ap (λ (b : Bool). finite v && b) all_finite_nil ∙ and_true (finite v))
+number_finite v = sym (all_finite_cons v [] ∙ ap (λ (b : Bool). finite v && b) all_finite_nil ∙ and-true (finite v))
 
 -- the numbers vs that its rule gives, laid over its list
 pub row_renewed : (l : FullLattice) (ch : Choice) (m : ℕ) (x : Fixed) (r : Row) (v u : Five) (b : Bool) (vs : List C64)
@@ -148,9 +148,9 @@ module _ (l : FullLattice) (ch : Choice) (m : ℕ) (x : Fixed) (row : ℕ → Ro
       ⊎_elim
       (λ e. renewed_row i v u t e a (b.taken e))
       (λ e. renewed_skip i v t e (subst (λ (z : Five). Renewed l ch m x (flagged_to row flags base i) v 0 z) (sym (b.left e).1) a))
-      (bool? (flag_at flags (base + i)))
+      (cases_Bool (flag_at flags (base + i)))
 
   pub renewed_stop : (i n c : ℕ) (v u t : Five) → i < n → c ≡ suc (level l ch m (row i)) → Renewed l ch m x (flagged_to row flags base i) v 0 u
       → RowTaken l ch m x flags (base + i) (row i) u false t → Renewed l ch m x (flagged_to row flags base n) v c t
   renewed_stop i n c v u t h k a b =
-      ⊎_elim (λ e. renewed_bad i n c v u t h k e a (b.taken e)) (λ e. absurd (false≢true (b.left e).0)) (bool? (flag_at flags (base + i)))
+      ⊎_elim (λ e. renewed_bad i n c v u t h k e a (b.taken e)) (λ e. absurd (false≢true (b.left e).0)) (cases_Bool (flag_at flags (base + i)))

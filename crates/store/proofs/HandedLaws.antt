@@ -4,7 +4,7 @@
 use Prim.Native.Nat.{ℕ, zero, suc, ◌+◌, ◌-◌, ◌*◌, ◌/◌, ◌<◌, ◌≤◌}
 use mathlib.Core.Path.{◌≡◌, refl, sym, ap, ◌∙◌}
 use mathlib.Core.Bool.{Bool, true, false, ◌&&◌, cond}
-use mathlib.Core.List.{List, []}
+use mathlib.Core.List.{List, [], ◌∷◌, ◌++◌, map}
 use native.Mathlib.Omega.{arith}
 use native.Mathlib.Numerals.{add-one}
 use native.Mathlib.Nat.{mul-le-mul}
@@ -18,7 +18,6 @@ use Rattle.numbers.specs.Complex.{no_number}
 use Rattle.numbers.specs.Lists.{rows, laid, laid_numbers, sum_to, start_of, starts_of, Numbers}
 use Rattle.numbers.specs.Places.{number_at}
 use Rattle.numbers.specs.Terms.{Term, columns_of, numbers_of}
-use Rattle.numbers.proofs.Laws.{and_left, and_right}
 use Rattle.numbers.proofs.Equations.{rows_zero, rows_suc, start_of_is, starts_of_is, number_at_is}
 use Rattle.numbers.proofs.ListLaws.{laid_length, laid_at, laid_numbers_length, laid_numbers_at, rows_agree, rows_at, long_as, read_at_lem}
 use Rattle.numbers.proofs.LoopLaws.{start_suc, start_long}
@@ -39,14 +38,14 @@ use Rattle.store.specs.Store.{Store, sizes}
 use Rattle.store.specs.declared.Choice.{Choice}
 use Rattle.store.specs.declared.handed.Cells.{Cells}
 use Rattle.std.specs.Prelude.{Some, None}
+use Rattle.std.specs.List.{list_all, range_with_len}
+use Rattle.std.proofs.lemmas.List.Folds.{list_all-append, list_all-map}
+use Rattle.std.proofs.lemmas.List.FromFn.{map-range_with_len_more}
+use Rattle.std.proofs.lemmas.Bool.{and_parts, and_right}
 use Rattle.store.specs.Handed.{Span, cells_in, some_cells, level_there, edges_in, levels_there, start_in, terms_off, part_at, row_at, rows_from, transfer_row, weight_terms, first_of, operator_row, numbers_handed, columns_handed, part_of, weight_row_of, operator_row_of, CellsOf}
 use Rattle.numbers.proofs.PartLaws.{sum_rise}
 
 -- ---- tests
-
-pub and_last : (s : Bool) {t : Bool} → t ≡ false → (s && t) ≡ false
-and_last true e = e
-and_last false e = refl
 
 -- what a test that found a place showed
 at_taken : (b : Bool) {s : Span} {i j : ℕ} → cond b s None ≡ Some (i, j) → (b ≡ true) × (s ≡ Some (i, j))
@@ -69,25 +68,21 @@ module _ (c : Cells) (L : ℕ) where
   pub level_held : level_there c L ≡ true → HeldLevel c L
   unfolding level_there
   level_held e =
-      let t = and_right (ltb L 12) _ e in
-      let u = and_right (ltb L c.levels) _ t in
-      let v = and_right (some_cells (cells_in c L 0)) _ u in
+      let t = (and_parts (ltb L 12) _ e).1 in
+      let u = (and_parts (ltb L c.levels) _ t).1 in
+      let v = (and_parts (some_cells (cells_in c L 0)) _ u).1 in
       record {
-        low = ltb-true L 12 (and_left (ltb L 12) _ e);
+        low = ltb-true L 12 ((and_parts (ltb L 12) _ e).0);
         each_most = (
-          leb-true _ _ (and_right (ltb 0 (cells_in c L 0)) _ (and_left (some_cells (cells_in c L 0)) _ u)),
-          leb-true _ _ (and_right (ltb 0 (cells_in c L 1)) _ (and_left (some_cells (cells_in c L 1)) _ v)),
-          leb-true _ _ (and_right (ltb 0 (cells_in c L 2)) _ (and_right (some_cells (cells_in c L 1)) _ v)),
+          leb-true _ _ ((and_parts (ltb 0 (cells_in c L 0)) _ ((and_parts (some_cells (cells_in c L 0)) _ u).0)).1),
+          leb-true _ _ ((and_parts (ltb 0 (cells_in c L 1)) _ ((and_parts (some_cells (cells_in c L 1)) _ v).0)).1),
+          leb-true _ _ ((and_parts (ltb 0 (cells_in c L 2)) _ ((and_parts (some_cells (cells_in c L 1)) _ v).1)).1),
         );
       }
 
   pub level_none : 12 ≤ L → false ≡ level_there c L
   unfolding level_there
   level_none h = rw (le-ltb L 12 h) refl
-
-  pub level_past : c.levels ≤ L → false ≡ level_there c L
-  unfolding level_there
-  level_past h = sym (and_last (ltb L 12) (rw (le-ltb L c.levels h) refl))
 
   pub level_tests : {v : Bool} → L < 12 → L < c.levels
       → v ≡ (some_cells (cells_in c L 0) && (some_cells (cells_in c L 1) && some_cells (cells_in c L 2))) → v ≡ level_there c L
@@ -126,8 +121,26 @@ levels_stop c q zero h e = absurd (omega arith)
 levels_stop c q (suc n) h e = go (leb n q) refl (λ b. levels_stop c q n b e)
   where
     go : (b : Bool) → leb n q ≡ b → (q < n → false ≡ levels_there c n) → false ≡ (levels_there c n && level_there c n)
-    go true d s = let f : q ≡ n = omega (arith, leb-true n q d) in sym (and_last (levels_there c n) (ap (level_there c) (sym f) ∙ e))
+    go true d s = let f : q ≡ n = omega (arith, leb-true n q d) in sym (and_right (levels_there c n) _ (ap (level_there c) (sym f) ∙ e))
     go false d s = rw (sym (s (omega (arith, leb-false n q d)))) refl
+
+-- each of them asked
+all_exist : (c : Cells) (n : ℕ) → list_all (λ b. b) (map (level_there c) (range_with_len 0 n)) ≡ levels_there c n
+unfolding levels_there
+all_exist c zero = refl
+all_exist c (suc n) =
+    let e : n + 1 ≡ suc n = omega arith in
+    let more : map (level_there c) (range_with_len 0 (suc n)) ≡ map (level_there c) (range_with_len 0 n) ++ level_there c n ∷ [] = rw e at (map-range_with_len_more (level_there c) 0 n n (omega arith)) in
+    ap (list_all (λ b. b)) more
+    ∙ list_all-append (λ b. b) (map (level_there c) (range_with_len 0 n)) (level_there c n ∷ [])
+    ∙ (λ i. all_exist c n i && alone (level_there c n) i)
+  where
+    alone : (b : Bool) → (b && true) ≡ b
+    alone true = refl
+    alone false = refl
+
+pub levels_along : (c : Cells) (n : ℕ) → list_all (level_there c) (range_with_len 0 n) ≡ levels_there c n
+levels_along c n = sym (list_all-map (λ b. b) (level_there c) (range_with_len 0 n)) ∙ all_exist c n
 
 -- at most 12 levels exist
 pub levels_few : (c : Cells) (n : ℕ) → 12 < n → false ≡ levels_there c n
@@ -146,7 +159,7 @@ module _ (n : ℕ → ℕ) (ss : List ℕ) (room p : ℕ) where
 
   pub part_terms : room < terms_off n ss p → None ≡ part_at n ss room p
   unfolding part_at
-  part_terms h = rw (and_last (leb (starts_off n p) (length ss)) (lt-leb _ _ h)) refl
+  part_terms h = rw (and_right (leb (starts_off n p) (length ss)) _ (lt-leb _ _ h)) refl
 
 -- q parts of p are passed: where their starts and their terms end
 pub record Passed (n : ℕ → ℕ) (ss : List ℕ) (room p q at terms : ℕ) : Type 0 where
@@ -209,8 +222,8 @@ module _ {n : ℕ → ℕ} {ss : List ℕ} {room p : ℕ} where
         high = omega arith;
         at_is = sym a;
         terms_is = sym t;
-        at_fits = omega (arith, leb-true (starts_off n p) (length ss) (and_left f g w.0));
-        terms_fit = omega (arith, leb-true (terms_off n ss p) room (and_right f g w.0));
+        at_fits = omega (arith, leb-true (starts_off n p) (length ss) ((and_parts f g w.0).0));
+        terms_fit = omega (arith, leb-true (terms_off n ss p) room ((and_parts f g w.0).1));
       }
 
 -- ---- a row, of a part whose starts and terms begin at known places
@@ -222,22 +235,22 @@ module _ (n : ℕ → ℕ) (ss : List ℕ) (room p r : ℕ) where
 
   row_short : length ss ≤ starts_off n p + (r + 1) → None ≡ row_at n ss room p r
   unfolding row_at
-  row_short h = rw (le-ltb _ _ h, and_last (ltb r (n p)) refl) refl
+  row_short h = rw (le-ltb _ _ h, and_right (ltb r (n p)) _ refl) refl
 
   row_past : room < terms_off n ss p + start_in n ss p (r + 1) → None ≡ row_at n ss room p r
   unfolding row_at
   row_past h =
       rw (
         lt-leb _ _ h,
-        and_last (leb (start_in n ss p r) (start_in n ss p (r + 1))) refl,
-        and_last (ltb (starts_off n p + (r + 1)) (length ss)) refl,
-        and_last (ltb r (n p)) refl,
+        and_right (leb (start_in n ss p r) (start_in n ss p (r + 1))) _ refl,
+        and_right (ltb (starts_off n p + (r + 1)) (length ss)) _ refl,
+        and_right (ltb r (n p)) _ refl,
       )
       refl
 
   row_falls : start_in n ss p (r + 1) < start_in n ss p r → None ≡ row_at n ss room p r
   unfolding row_at
-  row_falls h = rw (lt-leb _ _ h, and_last (ltb (starts_off n p + (r + 1)) (length ss)) refl, and_last (ltb r (n p)) refl) refl
+  row_falls h = rw (lt-leb _ _ h, and_right (ltb (starts_off n p + (r + 1)) (length ss)) _ refl, and_right (ltb r (n p)) _ refl) refl
 
   pub row_is : r < n p → starts_off n p + (r + 1) < length ss → start_in n ss p r ≤ start_in n ss p (r + 1) → terms_off n ss p + start_in n ss p (r + 1) ≤ room
       → Some (terms_off n ss p + start_in n ss p r, terms_off n ss p + start_in n ss p (r + 1)) ≡ row_at n ss room p r
@@ -265,10 +278,10 @@ module _ (n : ℕ → ℕ) (ss : List ℕ) (room p r : ℕ) where
       let g = ltb (starts_off n p + (r + 1)) (length ss) in
       let o = leb x y && leb (t + y) room in
       let w : ((f && (g && o)) ≡ true) × ◌≡◌ {A = Span} (Some (t + x, t + y)) (Some (i, j)) = at_taken (f && (g && o)) e in
-      let v : o ≡ true = and_right g o (and_right f (g && o) w.0) in
+      let v : o ≡ true = (and_parts g o ((and_parts f (g && o) w.0).1)).1 in
       let a : t + x ≡ i = (pair_is w.1).0 in
       let b : t + y ≡ j = (pair_is w.1).1 in
-      (omega (arith, leb-true x y (and_left (leb x y) (leb (t + y) room) v)), omega (arith, leb-true (t + y) room (and_right (leb x y) (leb (t + y) room) v)))
+      (omega (arith, leb-true x y ((and_parts (leb x y) (leb (t + y) room) v).0)), omega (arith, leb-true (t + y) room ((and_parts (leb x y) (leb (t + y) room) v).1)))
 
   module _ {at terms : ℕ} (u : Passed n ss room p p at terms) where
     pub row_starts : length ss - at ≤ r + 1 → None ≡ row_at n ss room p r
@@ -313,7 +326,7 @@ module _ (c : Cells) (ss : List ℕ) (room L r : ℕ) where
   operator_first h = operator_none (rw (lt-leb _ _ h) refl)
 
   pub operator_missing : levels_there c (L + 1) ≡ false → None ≡ operator_row c ss room L r
-  operator_missing e = operator_none (and_last (leb (first_of c) L) e)
+  operator_missing e = operator_none (and_right (leb (first_of c) L) _ e)
 
   pub operator_past : 12 ≤ L → None ≡ operator_row c ss room L r
   operator_past h = operator_missing (sym (levels_few c (L + 1) (omega arith)))
@@ -510,15 +523,6 @@ module _ {A : Type 0} (col : ℕ → ℕ → List ℕ) (vals : ℕ → ℕ → L
 
 -- a row's run: how long it is, the columns that were laid, and the numbers
 module _ (col : ℕ → ℕ → List ℕ) (n : ℕ → ℕ) (m p r : ℕ) (h : p < m) (b : r < n p) where
-  run_long : (xs : List Float) → 2 * terms_before col n m ≤ length xs
-      → length (part_of xs (2 * (terms_before col n p + start_of (col p) r)) (2 * (terms_before col n p + start_of (col p) (suc r)))) ≡ 2 * length (col p r)
-  run_long xs fits =
-      let i = terms_before col n p + start_of (col p) r in
-      let j = terms_before col n p + start_of (col p) (suc r) in
-      let ends : j ≤ terms_before col n m = row_ends col col n (λ q r. refl) m p r h b in
-      let run : j ≡ i + length (col p r) = row_long col col n (λ q r. refl) m p r h b in
-      part_long xs (2 * i) (2 * j) (omega arith) (omega arith) ∙ omega arith
-
   columns_part : (cs : List ℕ) → terms_before col n m ≤ length cs
       → part_of (laid cs 0 (values_of col n m)) (terms_before col n p + start_of (col p) r) (terms_before col n p + start_of (col p) (suc r)) ≡ col p r
   columns_part cs fits =
@@ -661,18 +665,6 @@ module _ (l : FullLattice) (limits : Limits l.grid) (m : ℕ) (c : Cells) (own :
       (turned_handed c true ss xs (laid ts 0 (rows (turned_starts_of l) m)) ys L r refl
       (sym (terms_turned c true ss (length xs / 2) (laid ts 0 (rows (turned_starts_of l) m)) (length ys / 2) L r refl)
       ∙ transfer_laid 1 (turned_cols l) (next_edges l) (λ q o. ap (edges_in c) (add-one q) ∙ edges_own (suc q) (omega arith)) ts (length ys / 2) L r a (omega arith) h k))
-
-  pub forward_row_long : (ss : List ℕ) (xs : List Float) (ts : List ℕ) (ys : List Float) (L r : ℕ) → starts_off (edges_on l) m ≤ length ss
-      → 2 * forward_off l m ≤ length xs → L < m → r < edges_on l L
-      → length (weight_row_of c false (laid ss 0 (rows (forward_starts_of l) m)) xs ts ys L r) ≡ 2 * length (forward_cols l L r)
-  forward_row_long ss xs ts ys L r a b h k =
-      ap (λ (zs : List Float). length zs) (forward_row ss xs ts ys L r a b h k) ∙ run_long (forward_cols l) (edges_on l) m L r h k xs b
-
-  pub turned_row_long : (ss : List ℕ) (xs : List Float) (ts : List ℕ) (ys : List Float) (L r : ℕ) → starts_off (next_edges l) m ≤ length ts
-      → 2 * turned_off l m ≤ length ys → L < m → r < edges_on l (suc L)
-      → length (weight_row_of c true ss xs (laid ts 0 (rows (turned_starts_of l) m)) ys L r) ≡ 2 * length (turned_cols l L r)
-  turned_row_long ss xs ts ys L r a b h k =
-      ap (λ (zs : List Float). length zs) (turned_row_lem ss xs ts ys L r a b h k) ∙ run_long (turned_cols l) (next_edges l) m L r h k ys b
 
   first_own : first_stored m ≡ first_of c
   first_own = go m own.levels_are

@@ -9,6 +9,7 @@ use borrow.Author.Tests.{eq-eqb, ne_eqb}
 use lib.Dec.{eqb, ltb}
 use lib.ListN.{length, get_or, set, replicate, length-set, length-replicate, get_or-replicate}
 use lib.Seq.{get_or-set_same, get_or-set_other}
+use Rattle.std.proofs.lemmas.Bool.{cases_eq}
 use Rattle.numbers.specs.declared.terms.Part.{Part}
 use Rattle.numbers.specs.Lists.{In}
 use Rattle.numbers.proofs.SumLaws.{sum_to_zero, sum_to_suc}
@@ -37,7 +38,7 @@ use Rattle.store.specs.declared.change.LevelParts.{LevelParts}
 use Rattle.store.proofs.EndLaws.{edges_next}
 use Rattle.numbers.proofs.PartLaws.{part_room}
 use Rattle.store.proofs.PatternLaws.{leads, galerkin_hit_lem, forward_hit_lem}
-use Rattle.store.proofs.RaisedLaws.{only_most, raise_set, raised_as, flags_raised, same?}
+use Rattle.store.proofs.RaisedLaws.{only_most, raise_set, raised_as, flags_raised}
 use Rattle.store.proofs.RangeLaws.{ranges}
 use Rattle.store.proofs.RankLaws.{first_most}
 use Rattle.store.proofs.SmallLaws.{forward_small, turned_small, operator_small}
@@ -71,7 +72,7 @@ single_edge ys e r h z =
     ⊎_elim
     (λ j. rw j (get_or-set_same ys e true false h ∙ sym (eq-eqb e e refl)))
     (λ j. get_or-set_other ys e r true false j ∙ z ∙ sym (ne_eqb r e j))
-    (same? r e)
+    (cases_eq r e)
 
 -- xs has the flag of edge e alone
 module _ (l : FullLattice) (limits : Limits l.grid) (e : ℕ) (base : e < edges_on l 0) {xs : List Bool} (at : xs ≡ set none e (get_or none e false || true)) where
@@ -446,7 +447,7 @@ module _ (l : FullLattice) (limits : Limits l.grid) (ch : Choice) (m : ℕ) (dee
         λ i. record { s = s i; k = t i }
 
     operator_next : {o : Part} → o ≡ cond (eqb L 0) a.operator (behind_of a.operator n os) → o ≡ operator_part l ch m (suc L)
-    operator_next {o} d = ⊎_elim first later (same? L 0)
+    operator_next {o} d = ⊎_elim first later (cases_eq L 0)
       where
         first : L ≡ 0 → o ≡ operator_part l ch m (suc L)
         first z =

@@ -18,7 +18,7 @@ use Rattle.operators.specs.declared.galerkin.FineRows.TheVariants.{Stored as Sto
 use Rattle.operators.proofs.RangeLaws.{edges_few}
 use Rattle.store.specs.Layout.{next_edges, forward_count, turned_count, operator_count, scale_count, turned_off, operator_off, stored_starts, eps_off, averaged_off, scale_off, eps_need}
 use Rattle.store.specs.Phases.{operator_part}
-use Rattle.store.specs.PhaseSteps.{averaged_from}
+use Rattle.store.specs.PhaseSteps.{averaged_from, behind_of}
 use Rattle.store.specs.FillSteps.{only_count, offsets_at}
 use Rattle.store.specs.Rows.{Row}
 use Rattle.store.specs.Reach.{hit}
@@ -230,11 +230,11 @@ module _ {l : FullLattice} {ch : Choice} {m : ℕ} (x : Fixed) (L : ℕ) (flags 
         → Renewed l ch m x (flagged_some l ch m flags (suc (7 * L)) 7) (five e f t o c) n (five e' f' t' o c)
     level_second {n} y w = some_stop l ch m x flags (suc (7 * L)) 4 3 7 (five e f t o c) (five e' f' t' o c) n refl y (four w)
 
-    pub level_third : {b n : ℕ} {o' c' : List Float} → b ≡ 0 → WeightsRenewed l ch m (flagged_some l ch m flags (suc (7 * L + 2)) 2) e' f t b f' t'
-        → Renewed l ch m x (flagged_some l ch m flags (suc (7 * L + 4)) 3) (five e' f' t' o c) n (five e' f' t' o' c')
-        → Renewed l ch m x (flagged_some l ch m flags (suc (7 * L)) 7) (five e f t o c) n (five e' f' t' o' c')
-    level_third {b} {n} {o'} {c'} k w y =
-        some_then l ch m x flags (suc (7 * L)) (suc (7 * L + 4)) 4 3 7 (five e f t o c) (five e' f' t' o c) (five e' f' t' o' c') n (omega arith) refl (rw k at (four w)) y
+    pub level_third : {b n : ℕ} {u : Five} → b ≡ 0 → WeightsRenewed l ch m (flagged_some l ch m flags (suc (7 * L + 2)) 2) e' f t b f' t'
+        → Renewed l ch m x (flagged_some l ch m flags (suc (7 * L + 4)) 3) (five e' f' t' o c) n u
+        → Renewed l ch m x (flagged_some l ch m flags (suc (7 * L)) 7) (five e f t o c) n u
+    level_third {b} {n} {u} k w y =
+        some_then l ch m x flags (suc (7 * L)) (suc (7 * L + 4)) 4 3 7 (five e f t o c) (five e' f' t' o c) u n (omega arith) refl (rw k at (four w)) y
 
 -- ---- all transfers
 
@@ -292,31 +292,33 @@ module _ (l : FullLattice) (ch : Choice) (m : ℕ) where
       go zero h = absurd (omega arith)
       go (suc m) h = omega (arith, sum_to_zero (part_size l ch (suc m)))
 
-  pub standing_first : 0 < m → {n : ℕ} → n ≡ eps_off l (suc m) → ◌≡◌ {A = Standing} (record { base = 0; from = 0; to = n; scale = 0; s = 0; k = 0 }) (standing_at l ch m 0)
-  standing_first h {n} e =
+  pub standing_first : 0 < m → {o : Offsets} {n : ℕ} → o ≡ offsets_at l 0 → n ≡ eps_off l (suc m)
+      → ◌≡◌ {A = Standing} (record { o = o; base = 0; from = 0; to = n; scale = 0; operator = record { s = 0; k = 0 } }) (standing_at l ch m 0)
+  standing_first h {o} {n} r e =
       let p = operator_second l ch m h in
       let b : 0 ≡ part_off l ch m (suc (7 * 0)) = sym (sole_none h) in
       let a : n ≡ averaged_off l m 0 = omega (arith, e, sum_to_zero (next_edges l)) in
       let c : 0 ≡ scale_off l 0 = sym (sum_to_zero (scale_count l)) in
-      λ i. record { base = b i; from = 0; to = a i; scale = c i; s = sym p.0 i; k = sym p.1 i }
+      λ i. record { o = r i; base = b i; from = 0; to = a i; scale = c i; operator = record { s = sym p.0 i; k = sym p.1 i } }
 
-  module _ (L : ℕ) {w : Standing} (is : w ≡ standing_at l ch m L) {os : List ℕ} (starts : OperatorStarts l ch m (suc L) (record { s = w.s; k = w.k }) os)
-      {n c d e : ℕ} (p : n ≡ edges_on l L) (q : c ≡ edges_on l (L + 1)) (x : d ≡ only_count ch n) (y : e ≡ only_count ch c) where
+  module _ (L : ℕ) {w : Standing} (is : w ≡ standing_at l ch m L) {os : List ℕ} (starts : OperatorStarts l ch m (suc L) w.operator os)
+      {n c d e : ℕ} (p : n ≡ edges_on l L) (q : c ≡ edges_on l (L + 1)) (x : d ≡ only_count ch n) (y : e ≡ only_count ch c)
+      {o : Offsets} (r : o ≡ offsets_at l (suc L)) {b : Part} (t : b ≡ behind_of w.operator c os) where
     pub standing_next : ◌≡◌ {A = Standing}
-        (record { base = w.base + (n + 3 * c + (d + 2 * e)); from = w.to; to = w.to + c; scale = w.scale + (n + c); s = w.s + c + 1; k = w.k + get_or os (w.s + c) 0 })
+        (record { o = o; base = w.base + (n + 3 * c + (d + 2 * e)); from = w.to; to = w.to + c; scale = w.scale + (n + c); operator = b })
         (standing_at l ch m (suc L))
     standing_next =
         let z : L + 1 ≡ suc L = omega arith in
         let q' : c ≡ edges_on l (suc L) = q ∙ ap (edges_on l) z in
         let x' : d ≡ only_count ch (edges_on l L) = x ∙ ap (only_count ch) p in
         let y' : e ≡ only_count ch (edges_on l (suc L)) = y ∙ ap (only_count ch) q' in
-        let g : get_or os (w.s + c) 0 ≡ operator_count l ch (suc L) = ap (λ (j : ℕ). get_or os (w.s + j) 0) q' ∙ starts.starts_are (edges_on l (suc L)) (omega arith) in
+        let g : get_or os (w.operator.s + c) 0 ≡ operator_count l ch (suc L) = ap (λ (j : ℕ). get_or os (w.operator.s + j) 0) q' ∙ starts.starts_are (edges_on l (suc L)) (omega arith) in
         let a : w.base + (n + 3 * c + (d + 2 * e)) ≡ part_off l ch m (suc (7 * suc L)) = omega (arith, ap (λ (s : Standing). s.base) is, base_7 l ch m L) in
-        let b : w.to + c ≡ averaged_off l m (suc L) = omega (arith, ap (λ (s : Standing). s.to) is, sum_to_suc (next_edges l) L) in
+        let v : w.to + c ≡ averaged_off l m (suc L) = omega (arith, ap (λ (s : Standing). s.to) is, sum_to_suc (next_edges l) L) in
         let f : w.scale + (n + c) ≡ scale_off l (suc L) = omega (arith, ap (λ (s : Standing). s.scale) is, sum_to_suc (scale_count l) L) in
-        let h : w.s + c + 1 ≡ stored_starts l m (suc (suc L)) = omega (arith, ap (λ (s : Standing). s.s) is, starts_later l ch m L) in
-        let k : w.k + get_or os (w.s + c) 0 ≡ operator_off l ch m (suc (suc L)) = omega (arith, ap (λ (s : Standing). s.k) is, terms_later l ch m L) in
-        λ i. record { base = a i; from = (is i).to; to = b i; scale = f i; s = h i; k = k i }
+        let h : w.operator.s + c + 1 ≡ stored_starts l m (suc (suc L)) = omega (arith, ap (λ (s : Standing). s.operator.s) is, starts_later l ch m L) in
+        let k : w.operator.k + get_or os (w.operator.s + c) 0 ≡ operator_off l ch m (suc (suc L)) = omega (arith, ap (λ (s : Standing). s.operator.k) is, terms_later l ch m L) in
+        λ i. record { o = r i; base = a i; from = (is i).to; to = v i; scale = f i; operator = (t ∙ (λ j. record { s = h j; k = k j })) i }
 
 -- ---- the rows of a transfer, from starts and columns that are the lattice's
 
@@ -331,9 +333,9 @@ turned_there l ch m x shaped L low room =
     }
 
 pub starts_there : (l : FullLattice) (ch : Choice) (m : ℕ) (x : Fixed) → Shaped l ch m x → (L : ℕ) → L < m → {w : Standing} → w ≡ standing_at l ch m L
-    → OperatorStarts l ch m (suc L) (record { s = w.s; k = w.k }) x.os
+    → OperatorStarts l ch m (suc L) w.operator x.os
 starts_there l ch m x shaped L low {w} is =
-    subst (λ (z : Standing). OperatorStarts l ch m (suc L) (record { s = z.s; k = z.k }) x.os) (sym is) (operator_starts_are l ch m x shaped (five [] [] [] [] []) L low)
+    subst (λ (z : Standing). OperatorStarts l ch m (suc L) z.operator x.os) (sym is) (operator_starts_are l ch m x shaped (five [] [] [] [] []) L low)
 
 pub turned_long : {l : FullLattice} {L n : ℕ} {o : Offsets} {ss cs : List ℕ} {xs xs' : List Float} {ts us : List ℕ} → TurnedReady l L o n ss cs xs ts us → length xs' ≡ length xs
     → TurnedReady l L o n ss cs xs' ts us
@@ -400,7 +402,7 @@ module _ (l : FullLattice) (limits : Limits l.grid) (m L : ℕ) (deep : (L < m) 
 
 -- what the next standing adds is small
 module _ (l : FullLattice) (limits : Limits l.grid) (ch : Choice) (m L : ℕ) (deep : (L < m) × (m ≤ 11)) {w : Standing} (is : w ≡ standing_at l ch m L)
-    {os : List ℕ} (starts : OperatorStarts l ch m (suc L) (record { s = w.s; k = w.k }) os) {n c : ℕ} (p : n ≡ edges_on l L) (q : c ≡ edges_on l (L + 1)) where
+    {os : List ℕ} (starts : OperatorStarts l ch m (suc L) w.operator os) {n c : ℕ} (p : n ≡ edges_on l L) (q : c ≡ edges_on l (L + 1)) where
   pub edges_small : (n ≤ 12288) × (c ≤ 12288)
   edges_small = (omega (arith, p, edges_few l limits L), omega (arith, edges_next l L q, edges_few l limits (suc L)))
 
@@ -414,10 +416,10 @@ module _ (l : FullLattice) (limits : Limits l.grid) (ch : Choice) (m L : ℕ) (d
       base_few : part_off l ch m (suc (7 * L)) ≤ 12288 * suc (7 * L)
       base_few = sum_most (part_size l ch m) 12288 (suc (7 * L)) (λ i b. size_few l limits ch m i)
 
-  pub starts_small : (w.s + c < length os) × (w.s + c ≤ 2 ^ 33) × (w.k + get_or os (w.s + c) 0 ≤ 2 ^ 33)
+  pub starts_small : (w.operator.s + c < length os) × (w.operator.s + c ≤ 2 ^ 33) × (w.operator.k + get_or os (w.operator.s + c) 0 ≤ 2 ^ 33)
   starts_small =
       let z = edges_next l L q in
-      let g : get_or os (w.s + c) 0 ≡ operator_count l ch (suc L) = ap (λ (j : ℕ). get_or os (w.s + j) 0) z ∙ starts.starts_are (edges_on l (suc L)) (omega arith) in (
+      let g : get_or os (w.operator.s + c) 0 ≡ operator_count l ch (suc L) = ap (λ (j : ℕ). get_or os (w.operator.s + j) 0) z ∙ starts.starts_are (edges_on l (suc L)) (omega arith) in (
         omega (arith, z, starts.starts_room),
         omega (arith, z, starts.starts_low, edges_few l limits (suc L)),
         omega (arith, g, starts.low, starts.few),
@@ -448,7 +450,7 @@ module _ (l : FullLattice) (ch : Choice) (m : ℕ) (x : Fixed) (shaped : Shaped 
   pub galerkin_ready : ch ≡ Galerkin → {n k : ℕ} → n ≡ edges_on l L → k ≡ edges_on l (L + 1)
       → (Shaped l Galerkin m x)
       × ((FiveRoom l Galerkin m (five e f t v []))
-      × (((o ≡ offsets_at l L) × (fine ≡ fine_of l Galerkin m L) × (◌≡◌ {A = Part} (record { s = w.s; k = w.k }) (operator_part l Galerkin m (suc L))))
+      × (((o ≡ offsets_at l L) × (fine ≡ fine_of l Galerkin m L) × (◌≡◌ {A = Part} w.operator (operator_part l Galerkin m (suc L))))
       × (PartFlags l Galerkin m (suc (7 * L + 6)) (w.base + (n + 2 * k)) flags)))
   galerkin_ready z p q =
       let is = subst (λ (c : Choice). w ≡ standing_at l c m L) z at.2 in (
@@ -456,7 +458,7 @@ module _ (l : FullLattice) (ch : Choice) (m : ℕ) (x : Fixed) (shaped : Shaped 
         (
           galerkin_room (subst (λ (ch : Choice). FiveRoom l ch m (five e f t v c)) z room),
           (
-            (at.0, subst (λ (c : Choice). fine ≡ fine_of l c m L) z at.1, ap (λ (s : Standing). record { s = s.s; k = s.k }) is),
+            (at.0, subst (λ (c : Choice). fine ≡ fine_of l c m L) z at.1, ap (λ (s : Standing). s.operator) is),
             flags_6g l shaped.limits m L deep is flags (subst (λ (c : Choice). part_off l c m (part_count m) ≤ 64 * length flags) z given.0) p q,
           ),
         ),
@@ -465,7 +467,7 @@ module _ (l : FullLattice) (ch : Choice) (m : ℕ) (x : Fixed) (shaped : Shaped 
   pub scaled_ready : ch ≡ Rediscretized
       → ((o ≡ offsets_at l L) × (w ≡ standing_at l Rediscretized m L))
       × (((part_off l Rediscretized m (part_count m) ≤ 64 * length flags) × (NoVolumes l Rediscretized m flags))
-      × (((TurnedRows l L x.ts x.tc t) × (OperatorStarts l Rediscretized m (suc L) (record { s = w.s; k = w.k }) x.os))
+      × (((TurnedRows l L x.ts x.tc t) × (OperatorStarts l Rediscretized m (suc L) w.operator x.os))
       × ((2 * averaged_off l m m ≤ length e) × (2 * operator_off l Rediscretized m (suc m) ≤ length v) × (2 * scale_off l m ≤ length c))))
   scaled_ready z =
       let is = subst (λ (c : Choice). w ≡ standing_at l c m L) z at.2 in
@@ -503,8 +505,8 @@ forward_count_lem {l} {ch} {m} {x} shaped {L} low {o} is =
       ap (λ (j : ℕ). get_or x.fs (j + edges_on l L) 0) z ∙ (forward_rows_lem l ch m x shaped v L low).starts_are (edges_on l L) (omega arith),
     )
 
-pub fine_next : (l : FullLattice) (ch : Choice) (m L : ℕ) {w : Standing} → w ≡ standing_at l ch m L → ◌≡◌ {A = FineRows} (StoredFrom (record { s = w.s; k = w.k })) (fine_of l ch m (L + 1))
-fine_next l ch m L is = let z : L + 1 ≡ suc L = omega arith in rw z (ap (λ (s : Standing). StoredFrom (record { s = s.s; k = s.k })) is)
+pub fine_next : (l : FullLattice) (ch : Choice) (m L : ℕ) {w : Standing} → w ≡ standing_at l ch m L → ◌≡◌ {A = FineRows} (StoredFrom w.operator) (fine_of l ch m (L + 1))
+fine_next l ch m L is = let z : L + 1 ≡ suc L = omega arith in rw z (ap (λ (s : Standing). StoredFrom s.operator) is)
 
 -- ---- the only level
 

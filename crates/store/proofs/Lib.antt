@@ -1,5 +1,4 @@
 pub mod SpaceLaws
-pub mod TestLaws
 pub mod PlaceLaws
 pub mod PlanLaws
 pub mod PlanTheorem

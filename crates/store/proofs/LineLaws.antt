@@ -13,16 +13,22 @@ use Rattle.lattice.specs.declared.levels.Lines.{Lines}
 use Rattle.lattice.specs.Check.{accepted}
 use Rattle.lattice.specs.Grid.{Limits, unknowns_of}
 use Rattle.lattice.specs.Lattice.{FullLattice}
+use Rattle.lattice.specs.Sound.{full}
 use Rattle.lattice.specs.Levels.{line_at, line_no, lines_to, three_at, depth_of, count_of, Joined}
 use Rattle.lattice.specs.Line.{packed}
 use Rattle.lattice.proofs.Equations.{lines_to_is, three_at_is}
 use Rattle.lattice.proofs.LevelLaws.{lines_at}
 use Rattle.weights.specs.Tables.{Paired}
+use Rattle.weights.specs.declared.pair.Pair.{Pair}
+use Rattle.weights.specs.Pair.{two}
 use Rattle.weights.specs.TwoLevels.{grid_with, two_at, two_of}
 use Rattle.weights.proofs.PairLaws.{two_at_lem, paired_at}
+use Rattle.operators.specs.Averaged.{PairedLines}
 use Rattle.operators.specs.LevelLists.{edges_on}
 use Rattle.operators.specs.Levels.{grid_at}
+use Rattle.operators.proofs.HatLaws.{pairs_at}
 use Rattle.operators.proofs.LevelListLaws.{level_grid, level_limits, level_edges}
+use Rattle.store.specs.Hierarchy.{LevelPair}
 use Rattle.store.specs.Phases.{blank_line, HasLines, three_in}
 use Rattle.lattice.proofs.LevelLaws.{depth_most}
 
@@ -44,6 +50,10 @@ pub has_lines : (l : FullLattice) (coarsest m : ℕ) {r : Lines} → Joined l co
 has_lines l coarsest m joined e =
     let deep : m ≤ 11 = omega (arith, depth_most l coarsest (suc m) e) in
     (lines_of l m (lines_to_lem l coarsest m joined e) deep, deep)
+
+-- the edges of the next level
+pub edges_next : (l : FullLattice) (L : ℕ) {n : ℕ} → n ≡ edges_on l (L + 1) → n ≡ edges_on l (suc L)
+edges_next l L e = let next : L + 1 ≡ suc L = omega arith in e ∙ ap (edges_on l) next
 
 -- ---- the lines of one level
 
@@ -87,3 +97,15 @@ module _ (l : FullLattice) (limits : Limits l.grid) (m : ℕ) {lines : List Line
 
   pub lines_two : two_of l fine coarse ≡ two_at l L
   lines_two = let e = both_lines in (λ i. two_of l (e.0 i) (e.1 i)) ∙ two_at_lem l limits L
+
+-- the same of a pair
+module _ {l : FullLattice} {L : ℕ} {pair : Pair} (p : LevelPair l L pair) where
+  pub level_pair : two pair ≡ two_of l (three_at l L) (three_at l (suc L))
+  level_pair = λ i. two_of (p.base_is i) (p.fine_is i) (p.coarse_is i)
+
+  pub level_two : Limits l.grid → two pair ≡ two_at l L
+  level_two limits = level_pair ∙ two_at_lem l limits L
+
+  -- what a pair whose lines are nested needs
+  pub level_nested : Limits l.grid → PairedLines (full pair.l) pair.fine pair.coarse
+  level_nested limits = rw (p.base_is, p.fine_is, p.coarse_is) (pairs_at l limits L)

@@ -19,7 +19,7 @@ use Rattle.numbers.proofs.SumLaws.{sum_to_zero, sum_to_suc, sum_most, sum_append
 use Rattle.lattice.specs.Grid.{Limits}
 use Rattle.lattice.specs.Lattice.{FullLattice}
 use Rattle.operators.specs.LevelLists.{edges_on}
-use Rattle.store.specs.Cells.{Cell, cell, place_of, kind_no, chosen, Chart, chart, rows_of, base_of, list_no, start_no, number_no, from_in, count_in, from_by, count_by, span_of, flagged_span, cells_on, rows_from, rest_from, rest_of, StartsFit, SpanFits, ChartFits, CellsFit, Found}
+use Rattle.store.specs.Cells.{no_words, Cell, cell, place_of, kind_in, chosen, Chart, chart, rows_of, base_of, list_in, start_no, number_no, from_in, count_in, from_by, count_by, span_of, flagged_span, cells_on, rows_from, rest_from, rest_of, StartsFit, SpanFits, ChartFits, CellsFit, Found}
 use Rattle.numbers.specs.Lists.{tabulate}
 use Rattle.numbers.proofs.TransposedLaws.{in_tabulate, tabulate_in}
 use Rattle.numbers.proofs.PartLaws.{sum_rise, part_room}
@@ -40,6 +40,7 @@ use Rattle.store.specs.declared.Choice.TheVariants.{Galerkin, Rediscretized}
 use Rattle.store.specs.declared.change.Cursor.{Cursor}
 use Rattle.store.specs.declared.change.Marks.{Marks}
 use Rattle.store.specs.declared.change.Words.{Words}
+use Rattle.store.specs.declared.change.NumberList.TheVariants.{Permittivities, Forward, Turned, Operator, Scaling}
 use Rattle.store.proofs.FlaggedLaws.{part_size_lem}
 use Rattle.store.proofs.PlanLaws.{in_stands}
 use Rattle.store.proofs.RankLaws.{Re, Valid, first_most}
@@ -50,86 +51,46 @@ use Rattle.store.proofs.StepLaws.{starts_later, terms_later, operator_first, ope
 use Rattle.store.proofs.StoreLaws.{need_of, row_most}
 use Rattle.store.proofs.TransferLaws.{first_sum}
 
--- ---- five words set
+-- ---- the words of a part set
 
-module _ (xs : List ℕ) (a r b c d e : ℕ) where
-  abbrev five_set : List ℕ
-  five_set = set (set (set (set (set xs a r) (a + 1) b) (a + 2) c) (a + 3) d) (a + 4) e
+abbrev based : ℕ → Words → Words
+based base w = record { rows = w.rows; base = base; list = w.list; start = w.start; number = w.number }
 
-  five_long : length five_set ≡ length xs
-  five_long = simp length-set
-
-  five_other : (j : ℕ) → (j ≡ a → ⊥) → (j ≡ a + 1 → ⊥) → (j ≡ a + 2 → ⊥) → (j ≡ a + 3 → ⊥) → (j ≡ a + 4 → ⊥) → get_or five_set j 0 ≡ get_or xs j 0
-  five_other j p q u v w =
-      get_or-set_other (set (set (set (set xs a r) (a + 1) b) (a + 2) c) (a + 3) d) (a + 4) j e 0 w
-      ∙ get_or-set_other (set (set (set xs a r) (a + 1) b) (a + 2) c) (a + 3) j d 0 v
-      ∙ get_or-set_other (set (set xs a r) (a + 1) b) (a + 2) j c 0 u
-      ∙ get_or-set_other (set xs a r) (a + 1) j b 0 q
-      ∙ get_or-set_other xs a j r 0 p
-
-  module _ (room : a + 5 ≤ length xs) where
-    five_0 : get_or five_set a 0 ≡ r
-    five_0 =
-        get_or-set_other (set (set (set (set xs a r) (a + 1) b) (a + 2) c) (a + 3) d) (a + 4) a e 0 (λ z. omega (arith, z))
-        ∙ get_or-set_other (set (set (set xs a r) (a + 1) b) (a + 2) c) (a + 3) a d 0 (λ z. omega (arith, z))
-        ∙ get_or-set_other (set (set xs a r) (a + 1) b) (a + 2) a c 0 (λ z. omega (arith, z))
-        ∙ get_or-set_other (set xs a r) (a + 1) a b 0 (λ z. omega (arith, z))
-        ∙ get_or-set_same xs a r 0 (omega arith)
-
-    five_1 : get_or five_set (a + 1) 0 ≡ b
-    five_1 =
-        get_or-set_other (set (set (set (set xs a r) (a + 1) b) (a + 2) c) (a + 3) d) (a + 4) (a + 1) e 0 (λ z. omega (arith, z))
-        ∙ get_or-set_other (set (set (set xs a r) (a + 1) b) (a + 2) c) (a + 3) (a + 1) d 0 (λ z. omega (arith, z))
-        ∙ get_or-set_other (set (set xs a r) (a + 1) b) (a + 2) (a + 1) c 0 (λ z. omega (arith, z))
-        ∙ get_or-set_same (set xs a r) (a + 1) b 0 (omega (arith, length-set xs a r))
-
-    five_2 : get_or five_set (a + 2) 0 ≡ c
-    five_2 =
-        get_or-set_other (set (set (set (set xs a r) (a + 1) b) (a + 2) c) (a + 3) d) (a + 4) (a + 2) e 0 (λ z. omega (arith, z))
-        ∙ get_or-set_other (set (set (set xs a r) (a + 1) b) (a + 2) c) (a + 3) (a + 2) d 0 (λ z. omega (arith, z))
-        ∙ get_or-set_same (set (set xs a r) (a + 1) b) (a + 2) c 0 (simp length-set (omega arith))
-
-    five_3 : get_or five_set (a + 3) 0 ≡ d
-    five_3 =
-        get_or-set_other (set (set (set (set xs a r) (a + 1) b) (a + 2) c) (a + 3) d) (a + 4) (a + 3) e 0 (λ z. omega (arith, z))
-        ∙ get_or-set_same (set (set (set xs a r) (a + 1) b) (a + 2) c) (a + 3) d 0 (simp length-set (omega arith))
-
-    five_4 : get_or five_set (a + 4) 0 ≡ e
-    five_4 = get_or-set_same (set (set (set (set xs a r) (a + 1) b) (a + 2) c) (a + 3) d) (a + 4) e 0 (simp length-set (omega arith))
-
-pub part_set : (xs : List ℕ) (p base : ℕ) (w : Words) → 5 * p + 5 ≤ length xs → PartSet xs p base w (five_set xs (5 * p) w.rows base w.list w.start w.number)
+pub part_set : (xs : List Words) (p base : ℕ) (w : Words) → p < length xs → PartSet xs p base w (set xs p (based base w))
 part_set xs p base w room =
+    let e = get_or-set_same xs p (based base w) no_words room in
     record {
-      long = five_long xs (5 * p) w.rows base w.list w.start w.number;
-      before = λ j h. five_other xs (5 * p) w.rows base w.list w.start w.number j (λ z. omega (arith, z)) (λ z. omega (arith, z)) (λ z. omega (arith, z)) (λ z. omega (arith, z)) (λ z. omega (arith, z));
+      long = length-set xs p (based base w);
+      before = λ j h. get_or-set_other xs p j (based base w) no_words (λ z. omega (arith, z));
       here =
           record {
-            rows_at = five_0 xs (5 * p) w.rows base w.list w.start w.number room;
-            base_at = five_1 xs (5 * p) w.rows base w.list w.start w.number room;
-            list_at = five_2 xs (5 * p) w.rows base w.list w.start w.number room;
-            start_at = five_3 xs (5 * p) w.rows base w.list w.start w.number room;
-            number_at_lem = five_4 xs (5 * p) w.rows base w.list w.start w.number room;
+            rows_at = ap (λ (x : Words). x.rows) e;
+            base_at = ap (λ (x : Words). x.base) e;
+            list_at = ap (λ (x : Words). x.list) e;
+            start_at = ap (λ (x : Words). x.start) e;
+            number_at_lem = ap (λ (x : Words). x.number) e;
           };
     }
 
 -- a part before those that were set
-part_kept : (xs ys : List ℕ) (q p base : ℕ) (w : Words) → q < p → ((j : ℕ) → j < 5 * p → get_or ys j 0 ≡ get_or xs j 0) → PartAt xs q base w → PartAt ys q base w
+part_kept : (xs ys : List Words) (q p base : ℕ) (w : Words) → q < p → ((j : ℕ) → j < p → get_or ys j no_words ≡ get_or xs j no_words) → PartAt xs q base w → PartAt ys q base w
 part_kept xs ys q p base w h same a =
+    let e = same q h in
     record {
-      rows_at = same (5 * q) (omega arith) ∙ a.rows_at;
-      base_at = same (5 * q + 1) (omega arith) ∙ a.base_at;
-      list_at = same (5 * q + 2) (omega arith) ∙ a.list_at;
-      start_at = same (5 * q + 3) (omega arith) ∙ a.start_at;
-      number_at_lem = same (5 * q + 4) (omega arith) ∙ a.number_at_lem;
+      rows_at = ap (λ (x : Words). x.rows) e ∙ a.rows_at;
+      base_at = ap (λ (x : Words). x.base) e ∙ a.base_at;
+      list_at = ap (λ (x : Words). x.list) e ∙ a.list_at;
+      start_at = ap (λ (x : Words). x.start) e ∙ a.start_at;
+      number_at_lem = ap (λ (x : Words). x.number) e ∙ a.number_at_lem;
     }
 
 -- ---- the seven parts of a transfer
 
-module _ {ws : ℕ → Words} {p base : ℕ} {xs : List ℕ} where
+module _ {ws : ℕ → Words} {p base : ℕ} {xs : List Words} where
   pub level_start : LevelSet ws p base xs 0 base xs
   level_start = record { long = refl; before = λ j h. refl; each = λ i h. absurd (omega arith); next = omega (arith, sum_to_zero (λ j. (ws j).rows)) }
 
-  pub level_turn : (ys zs : List ℕ) (n r : ℕ) (w : Words) → LevelSet ws p base xs n r ys → w ≡ ws n → PartSet ys (p + n) r w zs → LevelSet ws p base xs (n + 1) (r + w.rows) zs
+  pub level_turn : (ys zs : List Words) (n r : ℕ) (w : Words) → LevelSet ws p base xs n r ys → w ≡ ws n → PartSet ys (p + n) r w zs → LevelSet ws p base xs (n + 1) (r + w.rows) zs
   level_turn ys zs n r w s e t =
       record {
         long = t.long ∙ s.long;
@@ -142,7 +103,7 @@ module _ {ws : ℕ → Words} {p base : ℕ} {xs : List ℕ} where
         next = rw (add-one n) (omega (arith, s.next, ap (λ (x : Words). x.rows) e, sum_to_suc (λ j. (ws j).rows) n));
       }
 
-  pub level_count : (n r b : ℕ) (ys : List ℕ) → LevelSet ws p base xs n r ys → ((j : ℕ) → j < n → (ws j).rows ≤ b) → r ≤ base + b * n
+  pub level_count : (n r b : ℕ) (ys : List Words) → LevelSet ws p base xs n r ys → ((j : ℕ) → j < n → (ws j).rows ≤ b) → r ≤ base + b * n
   level_count n r b ys s h = omega (arith, s.next, sum_most (λ j. (ws j).rows) b n h)
 
 only_most : (ch : Choice) (n : ℕ) → only_count ch n ≤ n
@@ -159,42 +120,29 @@ words_few ch fine rough k (suc (suc (suc (suc zero)))) b h g = omega (arith, onl
 words_few ch fine rough k (suc (suc (suc (suc (suc zero))))) b h g = omega (arith, only_most ch rough)
 words_few ch fine rough k (suc (suc (suc (suc (suc (suc i)))))) b h g = g
 
--- ---- the words of a kind, by tests on its number
+-- ---- the words of the seven kinds
 
-module _ (ch : Choice) (fine rough : ℕ) (k : Marks) where
-  pub words_0 : (i : ℕ) → i ≡ 0 → words rough 0 0 k.eps ≡ words_by ch fine rough k i
-  unfolding words_by
-  words_0 i e = rw e refl
-
-  pub words_1 : (i n : ℕ) → i ≡ 1 → n ≡ only_count ch rough → words n 0 0 k.averaged ≡ words_by ch fine rough k i
-  unfolding words_by
-  words_1 i n e f = rw (e, f) refl
-
-  pub words_2 : (i : ℕ) → i ≡ 2 → words fine 1 k.forward.s k.forward.k ≡ words_by ch fine rough k i
-  unfolding words_by
-  words_2 i e = rw e refl
-
-  pub words_3 : (i : ℕ) → i ≡ 3 → words rough 2 k.turned.s k.turned.k ≡ words_by ch fine rough k i
-  unfolding words_by
-  words_3 i e = rw e refl
-
-  pub words_4 : (i n : ℕ) → i ≡ 4 → n ≡ only_count ch fine → words n 4 0 k.scale ≡ words_by ch fine rough k i
-  unfolding words_by
-  words_4 i n e f = rw (e, f) refl
-
-  pub words_5 : (i n : ℕ) → i ≡ 5 → n ≡ only_count ch rough → words n 4 0 (k.scale + fine) ≡ words_by ch fine rough k i
-  unfolding words_by
-  words_5 i n e f = rw (e, f) refl
-
-  pub words_6 : (i : ℕ) → (i ≡ 0 → ⊥) → (i ≡ 1 → ⊥) → (i ≡ 2 → ⊥) → (i ≡ 3 → ⊥) → (i ≡ 4 → ⊥) → (i ≡ 5 → ⊥) → words rough 3 k.operator.s k.operator.k ≡ words_by ch fine rough k i
-  unfolding words_by
-  words_6 zero a b c d e f = absurd (a refl)
-  words_6 (suc zero) a b c d e f = absurd (b refl)
-  words_6 (suc (suc zero)) a b c d e f = absurd (c refl)
-  words_6 (suc (suc (suc zero))) a b c d e f = absurd (d refl)
-  words_6 (suc (suc (suc (suc zero)))) a b c d e f = absurd (e refl)
-  words_6 (suc (suc (suc (suc (suc zero))))) a b c d e f = absurd (f refl)
-  words_6 (suc (suc (suc (suc (suc (suc i)))))) a b c d e f = refl
+pub words_seven : (ch : Choice) (fine rough : ℕ) (k : Marks) {n q : ℕ} → n ≡ only_count ch rough → q ≡ only_count ch fine → {a b c d e f g : Words}
+    → a ≡ words rough Permittivities 0 k.eps
+    → b ≡ words n Permittivities 0 k.averaged
+    → c ≡ words fine Forward k.forward.s k.forward.k
+    → d ≡ words rough Turned k.turned.s k.turned.k
+    → e ≡ words q Scaling 0 k.scale
+    → f ≡ words n Scaling 0 (k.scale + fine)
+    → g ≡ words rough Operator k.operator.s k.operator.k
+    → (i : ℕ) → i < 7 → get_or (a ∷ b ∷ c ∷ d ∷ e ∷ f ∷ g ∷ []) i no_words ≡ words_by ch fine rough k i
+unfolding words_by
+words_seven ch fine rough k {n} {q} u v {a} {b} {c} {d} {e} {f} {g} e0 e1 e2 e3 e4 e5 e6 = go
+  where
+    go : (i : ℕ) → i < 7 → get_or (a ∷ b ∷ c ∷ d ∷ e ∷ f ∷ g ∷ []) i no_words ≡ words_by ch fine rough k i
+    go zero h = e0
+    go (suc zero) h = e1 ∙ ap (λ (j : ℕ). words j Permittivities 0 k.averaged) u
+    go (suc (suc zero)) h = e2
+    go (suc (suc (suc zero))) h = e3
+    go (suc (suc (suc (suc zero)))) h = e4 ∙ ap (λ (j : ℕ). words j Scaling 0 k.scale) v
+    go (suc (suc (suc (suc (suc zero))))) h = e5 ∙ ap (λ (j : ℕ). words j Scaling 0 (k.scale + fine)) u
+    go (suc (suc (suc (suc (suc (suc zero)))))) h = e6
+    go (suc (suc (suc (suc (suc (suc (suc i))))))) h = absurd (omega arith)
 
 pub sole_zero : (l : FullLattice) (m r : ℕ) → m ≡ 0 → r ≡ edges_on l 0 → r ≡ sole_size l m
 sole_zero l m r e h = h ∙ sym (ap (sole_size l) e)
@@ -299,9 +247,9 @@ marks_first l ch m h n all e f =
 
 -- ---- all parts: those of the first L levels are set
 
-pub record Shaping (l : FullLattice) (ch : Choice) (m L : ℕ) (k : Marks) (base : ℕ) (shape : List ℕ) : Type 0 where
+pub record Shaping (l : FullLattice) (ch : Choice) (m L : ℕ) (k : Marks) (base : ℕ) (shape : List Words) : Type 0 where
   pub high : L ≤ m
-  pub long : length shape ≡ 390
+  pub long : length shape ≡ 78
   pub marks_are : 0 < m → k ≡ marks_at l ch m L
   pub base_is : base ≡ part_off l ch m (suc (7 * L))
   pub each : (p : ℕ) → p < suc (7 * L) → PartAt shape p (part_off l ch m p) (part_words l ch m p)
@@ -337,7 +285,7 @@ module _ (l : FullLattice) (ch : Choice) (m : ℕ) where
       words_rows l ch j L (marks_at l ch m L) ∙ sym (ap (part_size l ch m) z ∙ part_size_lem l ch m L j (omega arith))) in
       ap (λ (n : ℕ). part_off l ch m (suc (7 * L)) + n) e ∙ sym (sum_append (part_size l ch m) (suc (7 * L)) i)
 
-  pub shaping_start : (k : Marks) (n : ℕ) (xs ys : List ℕ) → n ≡ sole_size l m → length xs ≡ 390 → PartSet xs 0 0 (words n 3 0 0) ys → ((choice : Choice) → 0 < m → k ≡ marks_at l choice m 0) → Shaping l ch m 0 k n ys
+  pub shaping_start : (k : Marks) (n : ℕ) (xs ys : List Words) → n ≡ sole_size l m → length xs ≡ 78 → PartSet xs 0 0 (words n Operator 0 0) ys → ((choice : Choice) → 0 < m → k ≡ marks_at l choice m 0) → Shaping l ch m 0 k n ys
   unfolding part_words part_size
   shaping_start k n xs ys e g s f =
       record {
@@ -351,7 +299,7 @@ module _ (l : FullLattice) (ch : Choice) (m : ℕ) where
       first : (p : ℕ) → p ≡ 0 → PartAt ys p (part_off l ch m p) (part_words l ch m p)
       first p z = rw (z, sum_to_zero (part_size l ch m), ← e) s.here
 
-  pub shaping_turn : (L r : ℕ) (k q : Marks) (base : ℕ) (xs ys : List ℕ) → Shaping l ch m L k base xs → L < m
+  pub shaping_turn : (L r : ℕ) (k q : Marks) (base : ℕ) (xs ys : List Words) → Shaping l ch m L k base xs → L < m
       → LevelSet (words_by ch (edges_on l L) (edges_on l (suc L)) k) (7 * L + 1) base xs 7 r ys → q ≡ marks_at l ch m (suc L) → Shaping l ch m (L + 1) q r ys
   shaping_turn L r k q base xs ys s h t e =
       let a : k ≡ marks_at l ch m L = s.marks_are (omega arith) in
@@ -379,7 +327,7 @@ module _ (l : FullLattice) (ch : Choice) (m : ℕ) where
 
   module _ (limits : Limits l.grid) (deep : m ≤ 11) where
     -- what the next turn asks
-    pub shaping_scale : (L : ℕ) (k : Marks) (base : ℕ) (shape : List ℕ) → Shaping l ch m L k base shape → L < m → k.scale ≤ 2 ^ 40
+    pub shaping_scale : (L : ℕ) (k : Marks) (base : ℕ) (shape : List Words) → Shaping l ch m L k base shape → L < m → k.scale ≤ 2 ^ 40
     shaping_scale L k base shape s h = omega (arith, ap (λ (q : Marks). q.scale) (s.marks_are (omega arith)), scale_low l limits ch m deep L)
 
     part_few : (p : ℕ) → part_size l ch m p ≤ 12288
@@ -396,24 +344,24 @@ module _ (l : FullLattice) (ch : Choice) (m : ℕ) where
           words_few ch (edges_on l (p / 7)) (edges_on l (suc (p / 7))) (marks_at l ch m (p / 7)) (p % 7) 12288 (edges_few l limits (p / 7)) (edges_few l limits (suc (p / 7))),
         )
 
-    pub shaping_base : (L : ℕ) (k : Marks) (base : ℕ) (shape : List ℕ) → Shaping l ch m L k base shape → L < m → base ≤ 2 ^ 40
+    pub shaping_base : (L : ℕ) (k : Marks) (base : ℕ) (shape : List Words) → Shaping l ch m L k base shape → L < m → base ≤ 2 ^ 40
     shaping_base L k base shape s h = omega (arith, s.base_is, sum_most (part_size l ch m) 12288 (suc (7 * L)) (λ p b. part_few p))
 
     module _ (x : Fixed) (shaped : Shaped l ch m x) where
-      pub shaping_fits : (L : ℕ) (k : Marks) (base fine rough : ℕ) (shape : List ℕ) → Shaping l ch m L k base shape → L < m → fine ≡ edges_on l L → rough ≡ edges_on l (L + 1) → MarksFit k fine rough x.fs x.ts x.os
+      pub shaping_fits : (L : ℕ) (k : Marks) (base fine rough : ℕ) (shape : List Words) → Shaping l ch m L k base shape → L < m → fine ≡ edges_on l L → rough ≡ edges_on l (L + 1) → MarksFit k fine rough x.fs x.ts x.os
       shaping_fits L k base fine rough shape s h e f =
           let a : k ≡ marks_at l ch m L = s.marks_are (omega arith) in
           let g : rough ≡ edges_on l (suc L) = f ∙ ap (edges_on l) (add-one L) in
           rw (a, e, g) (marks_fit l limits ch m deep x shaped L h)
 
-      pub shaping_next : (L r : ℕ) (k q : Marks) (base fine rough : ℕ) (xs ys : List ℕ) → Shaping l ch m L k base xs → L < m → fine ≡ edges_on l L → rough ≡ edges_on l (L + 1)
+      pub shaping_next : (L r : ℕ) (k q : Marks) (base fine rough : ℕ) (xs ys : List Words) → Shaping l ch m L k base xs → L < m → fine ≡ edges_on l L → rough ≡ edges_on l (L + 1)
           → LevelSet (words_by ch fine rough k) (7 * L + 1) base xs 7 r ys → q ≡ next_marks k fine rough x.fs x.ts x.os → Shaping l ch m (L + 1) q r ys
       shaping_next L r k q base fine rough xs ys s h e f t d =
           let a : k ≡ marks_at l ch m L = s.marks_are (omega arith) in
           let g : rough ≡ edges_on l (suc L) = f ∙ ap (edges_on l) (add-one L) in
           shaping_turn L r k q base xs ys s h (rw (e, g) at t) (d ∙ (λ i. next_marks (a i) (e i) (g i) x.fs x.ts x.os) ∙ marks_next l limits ch m deep x shaped L h)
 
-  pub shaping_end : (L : ℕ) (k : Marks) (base : ℕ) (shape : List ℕ) → Shaping l ch m L k base shape → m ≤ L → ShapeOf l ch m shape
+  pub shaping_end : (L : ℕ) (k : Marks) (base : ℕ) (shape : List Words) → Shaping l ch m L k base shape → m ≤ L → ShapeOf l ch m shape
   shaping_end L k base shape s h = record { long = s.long; each = λ p b. s.each p (omega (arith, s.high)) }
 
 -- ---- where the rows stand
@@ -432,7 +380,7 @@ row_span cols n o ss cs w i h s k es ek room low =
 
 -- row r is row i of part p
 pub record RowSpan (l : FullLattice) (ch : Choice) (m : ℕ) (w : Chart) (p i : ℕ) (r : Row) : Type 0 where
-  pub kind_is : kind_no (list_no w p) ≡ kind_of l ch m r
+  pub kind_is : kind_in (list_in w p) ≡ kind_of l ch m r
   pub from_is : from_by w (kind_of l ch m r) p i ≡ from l ch m r
   pub count_is : count_by w (kind_of l ch m r) p i ≡ count l ch m r
   pub fits : SpanFits w (kind_of l ch m r) p i
@@ -442,12 +390,12 @@ only_low : (ch : Choice) (n i : ℕ) → i < only_count ch n → (i < n) × Re c
 only_low Galerkin n i h = absurd (omega arith)
 only_low Rediscretized n i h = (h, tt)
 
-module _ (l : FullLattice) (limits : Limits l.grid) (ch : Choice) (m : ℕ) (deep : m ≤ 11) (x : Fixed) (shaped : Shaped l ch m x) (flags shape : List ℕ) where
+module _ (l : FullLattice) (limits : Limits l.grid) (ch : Choice) (m : ℕ) (deep : m ≤ 11) (x : Fixed) (shaped : Shaped l ch m x) (flags : List ℕ) (shape : List Words) where
   abbrev on : Chart
   on = chart flags shape x.fs x.ts x.os
 
   kind_span : (k L i p base : ℕ) → k < 7 → L < m → i < size_by l ch k L → PartAt shape p base (words_by ch (edges_on l L) (edges_on l (suc L)) (marks_at l ch m L) k) → RowSpan l ch m on p i (row_by k L i)
-  unfolding row_by size_by words_by kind_no
+  unfolding row_by size_by words_by
   kind_span zero L i p base b h g a =
       record {
         kind_is = rw a.list_at refl;
@@ -497,8 +445,7 @@ module _ (l : FullLattice) (limits : Limits l.grid) (ch : Choice) (m : ℕ) (dee
       record { kind_is = rw a.list_at refl; from_is = t.0; count_is = t.1; fits = t.2; valid = (first_most m L h, h, g) }
   kind_span (suc (suc (suc (suc (suc (suc (suc k))))))) L i p base b h g a = absurd (omega arith)
 
-  sole_span : (n i base : ℕ) → m ≡ n → i < sole_size l n → PartAt shape 0 base (words (sole_size l n) 3 0 0) → RowSpan l ch m on 0 i (operator 0 i)
-  unfolding kind_no
+  sole_span : (n i base : ℕ) → m ≡ n → i < sole_size l n → PartAt shape 0 base (words (sole_size l n) Operator 0 0) → RowSpan l ch m on 0 i (operator 0 i)
   sole_span zero i base e g a =
       let none : first_stored m ≤ 0 = rw e (omega arith) in
       let o = operator_first l ch m in
@@ -593,7 +540,7 @@ module _ (w : Chart) where
         | no k ↦ in_right d (rows_from w p 0 (rows_of w p - 0)) (rest_from w n (suc p) 0) (parts_in n (suc p) q j d (omega arith) (omega arith) b e i)
       ]
 
-module _ (l : FullLattice) (limits : Limits l.grid) (ch : Choice) (m : ℕ) (deep : m ≤ 11) (x : Fixed) (shaped : Shaped l ch m x) (flags shape : List ℕ) (parted : ShapeOf l ch m shape) where
+module _ (l : FullLattice) (limits : Limits l.grid) (ch : Choice) (m : ℕ) (deep : m ≤ 11) (x : Fixed) (shaped : Shaped l ch m x) (flags : List ℕ) (shape : List Words) (parted : ShapeOf l ch m shape) where
   pub all_in : (p : Place) → Stands (rules l ch m) p (flagged_rows l ch m flags) → In p (map place_of (rest_from (chart flags shape x.fs x.ts x.os) (part_count m) 0 0))
   all_in p s =
       let w = chart flags shape x.fs x.ts x.os in

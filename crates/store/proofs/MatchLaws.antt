@@ -3,13 +3,14 @@
 use Prim.Native.Nat.{ℕ, zero, suc, ◌+◌, ◌≤◌, ◌<◌}
 use mathlib.Core.Path.{◌≡◌, refl, sym, ap, ◌∙◌}
 use mathlib.Core.Logic.{◌⊎◌, inl, inr}
-use mathlib.Core.Bool.{Bool, true, false, ◌&&◌, false≢true}
+use mathlib.Core.Bool.{Bool, true, false, ◌&&◌, false≢true, and_assoc}
 use mathlib.Core.List.{List, ◌∷◌, [], ◌++◌}
 use native.Mathlib.Omega.{arith}
 use lib.Dec.{eqb}
 use lib.ListN.{length, get_or, set}
 use lib.Seq.{ext_get_or}
 use borrow.Author.Tests.{eq-eqb, eqb-true, eqb-false}
+use Rattle.std.proofs.lemmas.Bool.{and_from, cases_Bool, false_from_ne_true, and_parts}
 use Rattle.numbers.specs.declared.terms.Part.{Part}
 use Rattle.numbers.specs.Lists.{rows, Laid, start_of, starts_of, entry_at, places_in}
 use Rattle.numbers.proofs.Equations.{rows_zero, rows_suc}
@@ -18,17 +19,8 @@ use Rattle.numbers.proofs.ListLaws.{rows_agree, start_agree, starts_agree, laid_
 use Rattle.numbers.proofs.PartLaws.{cols_long, starts_at, starts_long}
 use Rattle.numbers.proofs.StoredLaws.{start_room, start_at}
 use Rattle.numbers.proofs.TabulateLaws.{length_tabulate, tabulate_at}
-use Rattle.operators.proofs.RelationLaws.{and_both as and_told}
 use Rattle.store.specs.Calls.{matches}
 use Rattle.store.specs.Compare.{rows_match, PartRoom}
-use Rattle.store.proofs.TestLaws.{bool?, and_both, and_assoc}
-
--- ---- tests
-
--- a test that cannot hold fails
-pub never_true : (b : Bool) → (b ≡ true → ⊥) → b ≡ false
-never_true true h = absurd (h refl)
-never_true false h = refl
 
 -- ---- values in a list
 
@@ -45,8 +37,8 @@ unfolding matches
 matches_told cs k [] h j i e b = absurd (omega arith)
 matches_told cs k (v ∷ vs) h zero i e b =
     let z : i ≡ k = omega arith in
-    rw z (eqb-true (get_or cs k 0) v (and_told (eqb (get_or cs k 0) v) (matches cs (suc k) vs) h).0)
-matches_told cs k (v ∷ vs) h (suc j) i e b = matches_told cs (suc k) vs (and_told (eqb (get_or cs k 0) v) (matches cs (suc k) vs) h).1 j i (omega arith) (omega arith)
+    rw z (eqb-true (get_or cs k 0) v (and_parts (eqb (get_or cs k 0) v) (matches cs (suc k) vs) h).0)
+matches_told cs k (v ∷ vs) h (suc j) i e b = matches_told cs (suc k) vs (and_parts (eqb (get_or cs k 0) v) (matches cs (suc k) vs) h).1 j i (omega arith) (omega arith)
 
 -- it is read back
 pub matches_places : (cs : List ℕ) (k : ℕ) (vs : List ℕ) → matches cs k vs ≡ true → places_in cs k (length vs) ≡ vs
@@ -62,7 +54,7 @@ unfolding matches
 matches_append cs k [] ys = let z : k + 0 ≡ k = omega arith in rw z refl
 matches_append cs k (x ∷ xs) ys =
     let z : k + suc (length xs) ≡ suc k + length xs = omega arith in
-    rw (z, matches_append cs (suc k) xs ys) (and_assoc (eqb (get_or cs k 0) x) (matches cs (suc k) xs) (matches cs (suc k + length xs) ys))
+    rw (z, matches_append cs (suc k) xs ys) (sym (and_assoc (eqb (get_or cs k 0) x) (matches cs (suc k) xs) (matches cs (suc k + length xs) ys)))
 
 -- ---- rows, one behind another
 
@@ -97,12 +89,12 @@ module _ {cols : ℕ → List ℕ} {n : ℕ} {o : Part} {ss cs : List ℕ} where
   pub going_turn : {k r v : ℕ} → Going cols n o ss cs k r → r < n → v ≡ length (cols r) → row_match cols o ss cs k r ≡ true → Going cols n o ss cs (k + v) (r + 1)
   going_turn {k} {r} {v} u h e t =
       let z : r + 1 ≡ suc r = omega arith in
-      let w = and_told (eqb (get_or ss (o.s + r) 0) k) (matches cs (o.k + k) (cols r)) t in
+      let w = and_parts (eqb (get_or ss (o.s + r) 0) k) (matches cs (o.k + k) (cols r)) t in
       let p : o.k + length (rows cols r) ≡ o.k + k = omega (arith, cols_long cols r, u.place) in
       rw z (record {
         high = omega arith;
-        starts = λ i b. go i (bool? (eqb i r)) b (eqb-true (get_or ss (o.s + r) 0) k w.0);
-        columns = rw (rows_suc, matches_append, p) (and_both _ _ u.columns w.1);
+        starts = λ i b. go i (cases_Bool (eqb i r)) b (eqb-true (get_or ss (o.s + r) 0) k w.0);
+        columns = rw (rows_suc, matches_append, p) (and_from _ _ u.columns w.1);
         place = omega (arith, start_suc cols r, u.place);
       })
     where
@@ -115,18 +107,18 @@ module _ {cols : ℕ → List ℕ} {n : ℕ} {o : Part} {ss cs : List ℕ} where
 
   going_bad : {k r : ℕ} {b : Bool} → Going cols n o ss cs k r → r < n → row_match cols o ss cs k r ≡ false → b ≡ false → b ≡ rows_match cols n o ss cs
   going_bad {k} {r} u h f e =
-      e ∙ sym (never_true (rows_match cols n o ss cs) (λ t.
-      let w = and_told (matches ss o.s (starts_of cols n)) (matches cs o.k (rows cols n)) t in
+      e ∙ sym (false_from_ne_true (rows_match cols n o ss cs) (λ t.
+      let w = and_parts (matches ss o.s (starts_of cols n)) (matches cs o.k (rows cols n)) t in
       let a : get_or ss (o.s + r) 0 ≡ k = start_told cols n o.s ss w.0 r (omega arith) ∙ sym u.place in
-      false≢true (sym f ∙ and_both _ _ (eq-eqb (get_or ss (o.s + r) 0) k a) (rw u.place (row_told cols n o.k cs w.1 r h)))))
+      false≢true (sym f ∙ and_from _ _ (eq-eqb (get_or ss (o.s + r) 0) k a) (rw u.place (row_told cols n o.k cs w.1 r h)))))
 
   pub going_end : {k r : ℕ} {b : Bool} → Going cols n o ss cs k r → n ≤ r → b ≡ eqb (get_or ss (o.s + n) 0) k → b ≡ rows_match cols n o ss cs
   going_end {k} {r} u h e =
       let z : r ≡ n = omega (arith, u.high) in
-      e ∙ go (bool? (eqb (get_or ss (o.s + n) 0) k)) (rw z at u.place) (rw z at u.columns)
+      e ∙ go (cases_Bool (eqb (get_or ss (o.s + n) 0) k)) (rw z at u.place) (rw z at u.columns)
     where
       there : (j : ℕ) → j ≤ n → get_or ss (o.s + n) 0 ≡ start_of cols n → get_or ss (o.s + j) 0 ≡ start_of cols j
-      there j m l = at j m (bool? (eqb j n)) l
+      there j m l = at j m (cases_Bool (eqb j n)) l
         where
           at : (j : ℕ) → j ≤ n → (eqb j n ≡ true) ⊎ (eqb j n ≡ false) → get_or ss (o.s + n) 0 ≡ start_of cols n → get_or ss (o.s + j) 0 ≡ start_of cols j
           at j m (inl q) l = let w : j ≡ n = eqb-true j n q in rw w l
@@ -135,13 +127,13 @@ module _ {cols : ℕ → List ℕ} {n : ℕ} {o : Part} {ss cs : List ℕ} where
       go : (eqb (get_or ss (o.s + n) 0) k ≡ true) ⊎ (eqb (get_or ss (o.s + n) 0) k ≡ false) → k ≡ start_of cols n → matches cs o.k (rows cols n) ≡ true
           → eqb (get_or ss (o.s + n) 0) k ≡ rows_match cols n o ss cs
       go (inl t) p c =
-          t ∙ sym (and_both _ _
+          t ∙ sym (and_from _ _
           (matches_all ss o.s (starts_of cols n)
           (λ j i q b. let m : j ≤ n = omega (arith, starts_long cols n) in rw q (there j m (eqb-true (get_or ss (o.s + n) 0) k t ∙ p) ∙ sym (starts_at cols n j m))))
           c)
       go (inr f) p c =
-          f ∙ sym (never_true (rows_match cols n o ss cs) (λ t.
-          let w = and_told (matches ss o.s (starts_of cols n)) (matches cs o.k (rows cols n)) t in
+          f ∙ sym (false_from_ne_true (rows_match cols n o ss cs) (λ t.
+          let w = and_parts (matches ss o.s (starts_of cols n)) (matches cs o.k (rows cols n)) t in
           false≢true (sym f ∙ eq-eqb (get_or ss (o.s + n) 0) k (start_told cols n o.s ss w.0 n (omega arith) ∙ sym p))))
 
 -- a row laid at the front of a list with room for it is read back

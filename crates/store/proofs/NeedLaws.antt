@@ -3,18 +3,19 @@
 use Prim.Native.Nat.{ℕ, zero, suc, ◌+◌, ◌-◌, ◌*◌, ◌/◌, ◌%◌, ◌≤◌, ◌<◌}
 use mathlib.Core.Path.{◌≡◌, refl, sym, ap, ◌∙◌}
 use mathlib.Core.Bool.{Bool, true, false, not, cond}
-use mathlib.Core.List.{List}
+use mathlib.Core.List.{List, ◌∷◌, [], ◌++◌, map}
 use native.Mathlib.Omega.{arith}
 use native.Mathlib.Decide.{ℕ_discrete}
 use lib.Dec.{eqb, ltb}
 use lib.ListN.{length, get_or, length-replicate}
 use borrow.Author.Tests.{eq-eqb, ne_eqb, lt-ltb, le-ltb}
+use Rattle.std.specs.List.{sum as sum_of, range_with_len}
+use Rattle.std.proofs.lemmas.List.FromFn.{sum_by-map-range_with_len_more}
 use Rattle.numbers.specs.Lists.{start_of, sum_to}
 use Rattle.numbers.proofs.SumLaws.{sum_to_zero, sum_to_suc, sum_agree, sum_most, Summing, summing_start, summing_turn, summing_end, summing_most}
 use Rattle.numbers.proofs.PartLaws.{sum_first}
 use Rattle.lattice.specs.declared.grid.Grid3d.{Grid3d}
 use Rattle.lattice.specs.declared.line.Line.{Line}
-use Rattle.lattice.specs.declared.levels.Three.{Three}
 use Rattle.lattice.specs.Check.{accepted, refused, and_then}
 use Rattle.lattice.specs.Grid.{Limits, unknowns_of}
 use Rattle.lattice.specs.Lattice.{FullLattice}
@@ -22,7 +23,9 @@ use Rattle.lattice.specs.Levels.{line_at}
 use Rattle.lattice.proofs.Equations.{packed_is}
 use Rattle.lattice.proofs.LevelLaws.{line_over}
 use Rattle.weights.specs.Prolongation.{weight_columns}
-use Rattle.weights.specs.TwoLevels.{TwoLevels, two_at, two_of, fine_grid}
+use Rattle.weights.specs.declared.pair.Pair.{Pair}
+use Rattle.weights.specs.Pair.{two}
+use Rattle.weights.specs.TwoLevels.{TwoLevels, two_at, fine_grid}
 use Rattle.weights.proofs.NoRepeats.{names_no_edge_twice}
 use Rattle.operators.specs.LevelLists.{edges_on}
 use Rattle.operators.specs.Levels.{grid_at, pattern_row, base_relations, relations_below}
@@ -35,12 +38,25 @@ use Rattle.operators.proofs.RangeLaws.{fine_edges_lem}
 use Rattle.operators.proofs.TableLaws.{relations_length}
 use Rattle.store.specs.Layout.{blank, forward_cols, forward_count, operator_count, first_stored, forward_off, operator_off, stored_starts, starts_off, next_edges, eps_need, scale_need, ends_off}
 use Rattle.store.specs.Setup.{all_to, names_once}
-use Rattle.store.specs.Phases.{blank_line, HasLines, three_in}
+use Rattle.store.specs.Hierarchy.{LevelPair}
+use Rattle.store.specs.Phases.{blank_line, HasLines}
 use Rattle.store.specs.FillSteps.{Relations, coarse_terms, only_count, needs_of, FirstBad}
 use Rattle.store.specs.declared.Choice.{Choice}
 use Rattle.store.specs.declared.Choice.TheVariants.{Galerkin, Rediscretized}
-use Rattle.store.proofs.LineLaws.{both_lines, lines_two}
+use Rattle.store.proofs.LineLaws.{level_pair, level_two}
 use Rattle.store.proofs.SizeLaws.{operator_count_lem, operator_few, edges_few}
+
+-- the sum of what f gives for a range
+pub sum_along : (f g : ℕ → ℕ) (a n : ℕ) → ((i : ℕ) → i < n → f (a + i) ≡ g i) → sum_of (map f (range_with_len a n)) ≡ sum_to g n
+sum_along f g a zero h = sym (sum_to_zero g)
+sum_along f g a (suc n) h =
+    let e : n + 1 ≡ suc n = omega arith in
+    let more : sum_of (map f (range_with_len a (suc n))) ≡ sum_of (map f (range_with_len a n)) + f (a + n) = rw e at (sum_by-map-range_with_len_more (λ x. x) f a n (a + n) (omega arith)) in
+    more ∙ (λ i. sum_along f g a n (λ j b. h j (omega arith)) i + h n (omega arith) i) ∙ sym (sum_to_suc g n)
+
+-- it is small
+pub sum_along_few : (f g : ℕ → ℕ) (a n b : ℕ) → ((i : ℕ) → i < n → f (a + i) ≡ g i) → ((i : ℕ) → i < n → g i ≤ b) → sum_of (map f (range_with_len a n)) ≤ b * n
+sum_along_few f g a n b h few = rw (sum_along f g a n h) (sum_most g b n few)
 
 -- a sum with the next term is small
 pub summing_few : {f : ℕ → ℕ} {n m s v : ℕ} (b : ℕ) → Summing f n m s → m < n → ((i : ℕ) → i < n → f i ≤ b) → v ≡ f m → s + v ≤ b * m + b
@@ -65,12 +81,11 @@ module _ (l : FullLattice) (limits : Limits l.grid) (m : ℕ) {lines : List Line
 
 -- ---- the weights of a transfer
 
-module _ (l : FullLattice) (limits : Limits l.grid) (m : ℕ) {lines : List Line} (has : HasLines l m lines) {L : ℕ} (low : L < m) {fine coarse : Three}
-    (p : fine ≡ three_in lines L) (q : coarse ≡ three_in lines (L + 1)) where
-  pub count_is : {r : ℕ} → r ≡ start_of (weight_columns (two_of l fine coarse)) (unknowns_of (fine_grid (two_of l fine coarse))) → r ≡ forward_count l L
+module _ (l : FullLattice) (limits : Limits l.grid) {L : ℕ} {pair : Pair} (p : LevelPair l L pair) where
+  pub count_is : {r : ℕ} → r ≡ start_of (weight_columns (two pair)) (unknowns_of (fine_grid (two pair))) → r ≡ forward_count l L
   unfolding forward_cols
   count_is e =
-      e ∙ ap (λ (t : TwoLevels). start_of (weight_columns t) (unknowns_of (fine_grid t))) (lines_two l limits m has low p q)
+      e ∙ ap (λ (t : TwoLevels). start_of (weight_columns t) (unknowns_of (fine_grid t))) (level_two p limits)
       ∙ ap (start_of (weight_columns (two_at l L))) (fine_edges_lem l L)
 
 -- ---- relations, and the terms they count
@@ -82,11 +97,9 @@ module _ (l : FullLattice) (limits : Limits l.grid) where
   pub relations_first : {u : List ℕ} → u ≡ base_relations l l.grid → Relations l 0 u
   relations_first {u} e = record { long = relations_long _ e; right = right_base l limits u e }
 
-  pub relations_next : (m : ℕ) {lines : List Line} → HasLines l m lines → {L : ℕ} → L < m → {fine coarse : Three} {u v : List ℕ} → fine ≡ three_in lines L → coarse ≡ three_in lines (L + 1)
-      → Relations l L u → v ≡ relations_below (two_of l fine coarse) u → Relations l (suc L) v
-  relations_next m has {L} low p q r e =
-      let b = both_lines l limits m has low p q in
-      record { long = relations_long _ e; right = right_below l L limits b.0 b.1 r.right e }
+  pub relations_next : {L : ℕ} {pair : Pair} {u v : List ℕ} → LevelPair l L pair → Relations l L u → v ≡ relations_below (two pair) u → Relations l (suc L) v
+  relations_next {L} {u = u} p r e =
+      record { long = relations_long _ e; right = right_below l L limits refl refl r.right (e ∙ ap (λ (t : TwoLevels). relations_below t u) (level_pair p)) }
 
   pub galerkin_terms_lem : {L n : ℕ} {u : List ℕ} → Relations l L u → n ≡ start_of (pattern_row l (grid_at l L) u) (edges_on l L) → n ≡ operator_count l Galerkin L
   galerkin_terms_lem {L} {u = u} r e = e ∙ galerkin_count l limits blank L u r.right ∙ operator_count_lem l Galerkin blank L

@@ -172,9 +172,6 @@ module _ (l : FullLattice) (limits : Limits l.grid) (m : ℕ) (deep : (0 < m) ×
 
   module _ {os oc : List ℕ} {ox : List Float} {u : List ℕ} {o : Offsets} {fine : FineRows} {q : Part} {bad L : ℕ}
       (w : Growing l m eps ss cs xs ts us ys os₀ oc₀ ox₀ os oc ox u o fine q bad L) where
-    pub growing_long : (length os ≡ length os₀) × (length oc ≡ length oc₀) × (length ox ≡ length ox₀)
-    growing_long = operators_long l Galerkin m ready.reader L (w.left ready.reader ready.by)
-
     module _ (h : L < m) {v : List ℕ} (r : Relations l (suc L) v) where
       given_at : (f : ℕ → C64) → TransfersBy l f m eps ss cs xs ts us ys
           → LevelGiven fine l eps (grid_at l (suc L)) v (forward_part l L) ss cs xs (turned_part l L) ts us ys q os oc ox f L

@@ -1,7 +1,7 @@
 -- The working parts over the operator's rows and the inverse shares: their flags, the lattice of a level, and where they stand.
 -- Assumes nothing.
 use Prim.Native.Nat.{ℕ, suc, ◌+◌, ◌*◌, ◌≤◌, ◌<◌, ◌^◌}
-use mathlib.Core.Path.{◌≡◌, refl, sym, ap, ◌∙◌}
+use mathlib.Core.Path.{◌≡◌, refl, sym, ap, subst, ◌∙◌}
 use mathlib.Core.List.{List, []}
 use native.Mathlib.Omega.{arith}
 use lib.ListN.{length}
@@ -24,6 +24,7 @@ use Rattle.operators.specs.declared.galerkin.FineRows.{FineRows}
 use Rattle.operators.proofs.Equations.{lattice_at_zero}
 use Rattle.operators.proofs.RangeLaws.{level_edges}
 use Rattle.operators.proofs.RediscretizedLaws.{tame_at}
+use Rattle.operators.proofs.LevelListLaws.{lattice_limits}
 use Rattle.operators.proofs.RediscretizedLists.{lattice_own}
 use Rattle.store.specs.Space.{Look}
 use Rattle.store.specs.Places.{space}
@@ -88,6 +89,9 @@ module _ (l : FullLattice) (limits : Limits l.grid) (m : ℕ) {L : ℕ} (deep : 
 
   pub own_tame : (Tame s.x) × (Tame s.y) × (Tame s.z)
   own_tame = rw own_lines (tame_at l limits (suc L))
+
+  pub own_limits : {k : FullLattice} → k ≡ rediscretized_lattice l (lines_in s) → Limits k.grid
+  own_limits own = subst (λ (k : FullLattice). Limits k.grid) (sym (lattice_own l limits L own_lines own)) (lattice_limits l limits (suc L))
 
   module _ {k : FullLattice} (own : k ≡ rediscretized_lattice l (lines_in s)) {a n : ℕ} (e : a ≡ averaged_off l m L) (q : n ≡ edges_on l (L + 1)) where
     own_is : k ≡ lattice_at l (suc L)

@@ -56,7 +56,12 @@ use Rattle.store.specs.declared.Choice.TheVariants.{Galerkin}
 use Rattle.store.proofs.ColumnLaws.{operator_cols_at}
 use Rattle.store.proofs.EndLaws.{edges_next}
 use Rattle.store.proofs.FoundLaws.{column_is}
-use Rattle.store.proofs.LineLaws.{level_lines, grid_is, both_lines, lines_paired, lines_two}
+use Rattle.store.proofs.LineLaws.{level_lines, grid_is, level_two}
+use Rattle.store.specs.Hierarchy.{LevelPair}
+use Rattle.lattice.specs.Sound.{full}
+use Rattle.weights.specs.Pair.{two}
+use Rattle.weights.specs.declared.pair.Pair.{Pair}
+use Rattle.operators.proofs.LevelListLaws.{level_grid}
 use Rattle.store.proofs.PatternLaws.{pattern_cols}
 use Rattle.store.proofs.RaisedLaws.{raised_as}
 use Rattle.store.proofs.ScalingLaws.{lattice_at_lem}
@@ -128,14 +133,14 @@ module _ (l : FullLattice) (limits : Limits l.grid) {u : List ℕ} (w : Relation
 
 -- ---- the lines, grids and tables of two neighbouring levels, as the code has them
 
-module _ (l : FullLattice) (limits : Limits l.grid) (m : ℕ) {lines : List Line} (has : HasLines l m lines) {L : ℕ} (low : L < m) {fine coarse : Three}
-    (p : fine ≡ three_in lines L) (q : coarse ≡ three_in lines (L + 1)) {gf gc : Grid3d}
-    (a : gf ≡ grid_with l.grid fine.x.cells fine.y.cells fine.z.cells) (b : gc ≡ grid_with l.grid coarse.x.cells coarse.y.cells coarse.z.cells) where
+module _ {l : FullLattice} (limits : Limits l.grid) {L : ℕ} {pair : Pair} (p : LevelPair l L pair) {gf gc : Grid3d}
+    (a : gf ≡ grid_with l.grid pair.fine.x.cells pair.fine.y.cells pair.fine.z.cells)
+    (b : gc ≡ grid_with l.grid pair.coarse.x.cells pair.coarse.y.cells pair.coarse.z.cells) where
   fine_is : gf ≡ grid_at l L
-  fine_is = grid_is l m has {L = L} {k = L} (omega arith) refl p a
+  fine_is = level_grid l L p.fine_is a
 
   coarse_is : gc ≡ grid_at l (suc L)
-  coarse_is = grid_is l m has {L = suc L} {k = L + 1} low (omega arith) q b
+  coarse_is = level_grid l (suc L) p.coarse_is b
 
   pub pass_limits : (Limits gf) × (Limits gc)
   pass_limits = (rw fine_is (grid_limits l limits L), rw coarse_is (grid_limits l limits (suc L)))
@@ -143,8 +148,8 @@ module _ (l : FullLattice) (limits : Limits l.grid) (m : ℕ) {lines : List Line
   pub coarse_edges_lem : unknowns_of gc ≡ edges_on l (suc L)
   coarse_edges_lem = ap unknowns_of coarse_is
 
-  two : two_of l fine coarse ≡ two_at l L
-  two = lines_two l limits m has low p q
+  two_is : two pair ≡ two_at l L
+  two_is = level_two p limits
 
   fine_at_lem : gf ≡ fine_grid (two_at l L)
   fine_at_lem = fine_is ∙ grid_fine l L
@@ -152,16 +157,16 @@ module _ (l : FullLattice) (limits : Limits l.grid) (m : ℕ) {lines : List Line
   coarse_at : gc ≡ coarse_grid (two_at l L)
   coarse_at = coarse_is ∙ grid_coarse l L
 
-  module _ {nn : List ℕ} (n : nn ≡ tabulate (node_no (two_of l fine coarse)) 195 0) where
+  module _ {nn : List ℕ} (n : nn ≡ tabulate (node_no (two pair)) 195 0) where
     nodes_at_lem : nn ≡ tabulate (node_no (two_at l L)) 195 0
-    nodes_at_lem = n ∙ ap (λ (t : TwoLevels). tabulate (node_no t) 195 0) two
+    nodes_at_lem = n ∙ ap (λ (t : TwoLevels). tabulate (node_no t) 195 0) two_is
 
     pub pass_nested : NestedIn gf gc nn
     pass_nested =
-        let w : NestedIn (fine_grid (two_of l fine coarse)) (coarse_grid (two_of l fine coarse)) (tabulate (node_no (two_of l fine coarse)) 195 0) =
-        nodes_nested (lines_paired l limits m has low p q) in
+        let w : NestedIn (fine_grid (two pair)) (coarse_grid (two pair)) (tabulate (node_no (two pair)) 195 0) =
+        nodes_nested pair.paired in
         let v : NestedIn (fine_grid (two_at l L)) (coarse_grid (two_at l L)) (tabulate (node_no (two_at l L)) 195 0) =
-        subst (λ (t : TwoLevels). NestedIn (fine_grid t) (coarse_grid t) (tabulate (node_no t) 195 0)) two w in
+        subst (λ (t : TwoLevels). NestedIn (fine_grid t) (coarse_grid t) (tabulate (node_no t) 195 0)) two_is w in
         rw (fine_at_lem, coarse_at, nodes_at_lem) v
 
     pub eps_raised : {flags xs ys : List Bool} → Raised (unknowns_of gc) flags (eps_reads_in gf gc nn) xs ys → Raised (edges_on l (suc L)) flags (eps_reads (two_at l L)) xs ys
@@ -172,21 +177,20 @@ module _ (l : FullLattice) (limits : Limits l.grid) (m : ℕ) {lines : List Line
 
 -- ---- averaged permittivities, and a rediscretized level's own lattice
 
-module _ (l : FullLattice) (limits : Limits l.grid) (m : ℕ) {lines : List Line} (has : HasLines l m lines) {L : ℕ} (low : L < m) {fine coarse : Three}
-    (p : fine ≡ three_in lines L) (q : coarse ≡ three_in lines (L + 1)) where
-  same_two : two_of l fine coarse ≡ two_at l L
-  same_two = lines_two l limits m has low p q
+module _ {l : FullLattice} (limits : Limits l.grid) {L : ℕ} {pair : Pair} (p : LevelPair l L pair) where
+  same_two : two pair ≡ two_at l L
+  same_two = level_two p limits
 
-  pub averaged_asked : {nn : List ℕ} {n : ℕ} (flags xs : List Bool) → nn ≡ tabulate (node_no (two_of l fine coarse)) 195 0 → n ≡ edges_on l (L + 1)
+  pub averaged_asked : {nn : List ℕ} {n : ℕ} (flags xs : List Bool) → nn ≡ tabulate (node_no (two pair)) 195 0 → n ≡ edges_on l (L + 1)
       → (edges_on l L ≤ length flags) × (edges_on l (suc L) ≤ length xs)
-      → PairedLines l fine coarse × ((nn ≡ tabulate (node_no (two_of l fine coarse)) 195 0) × ((unknowns_of (fine_grid (two_of l fine coarse)) ≤ length flags)
-      × ((n ≡ unknowns_of (coarse_grid (two_of l fine coarse))) × (n ≤ length xs))))
+      → PairedLines (full pair.l) pair.fine pair.coarse × ((nn ≡ tabulate (node_no (two pair)) 195 0) × ((unknowns_of (fine_grid (two pair)) ≤ length flags)
+      × ((n ≡ unknowns_of (coarse_grid (two pair))) × (n ≤ length xs))))
   averaged_asked flags xs d e room =
-      let f : unknowns_of (fine_grid (two_of l fine coarse)) ≡ edges_on l L = ap (λ (t : TwoLevels). unknowns_of (fine_grid t)) same_two ∙ ap unknowns_of (sym (grid_fine l L)) in
-      let c : unknowns_of (coarse_grid (two_of l fine coarse)) ≡ edges_on l (suc L) = ap (λ (t : TwoLevels). unknowns_of (coarse_grid t)) same_two ∙ ap unknowns_of (sym (grid_coarse l L)) in
-      (lines_nested l L limits (both_lines l limits m has low p q), (d, (omega (arith, room.0), (edges_next l L e ∙ sym c, omega (arith, room.1, edges_next l L e)))))
+      let f : unknowns_of (fine_grid (two pair)) ≡ edges_on l L = ap (λ (t : TwoLevels). unknowns_of (fine_grid t)) same_two ∙ ap unknowns_of (sym (grid_fine l L)) in
+      let c : unknowns_of (coarse_grid (two pair)) ≡ edges_on l (suc L) = ap (λ (t : TwoLevels). unknowns_of (coarse_grid t)) same_two ∙ ap unknowns_of (sym (grid_coarse l L)) in
+      (rw (p.base_is) (lines_nested l L limits (p.fine_is, p.coarse_is)), (d, (omega (arith, room.0), (edges_next l L e ∙ sym c, omega (arith, room.1, edges_next l L e)))))
 
-  pub averaged_raised : {n : ℕ} {flags xs ys : List Bool} → n ≡ edges_on l (L + 1) → Raised n flags (averaged_reads (two_of l fine coarse)) xs ys
+  pub averaged_raised : {n : ℕ} {flags xs ys : List Bool} → n ≡ edges_on l (L + 1) → Raised n flags (averaged_reads (two pair)) xs ys
       → Raised (edges_on l (suc L)) flags (averaged_reads (two_at l L)) xs ys
   averaged_raised e w = raised_as w (edges_next l L e) (λ r h. ap (λ (t : TwoLevels). averaged_reads t r) same_two)
 

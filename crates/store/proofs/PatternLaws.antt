@@ -6,9 +6,10 @@ use mathlib.Core.Logic.{⊎_elim}
 use mathlib.Core.Bool.{Bool, ◌||◌}
 use mathlib.Core.List.{List}
 use native.Mathlib.Omega.{arith}
+use Rattle.std.proofs.lemmas.Bool.{or_cases, or_left, or_right}
 use Rattle.numbers.specs.Lists.{each, start_of}
 use Rattle.numbers.proofs.ListLaws.{start_agree}
-use Rattle.numbers.proofs.Laws.{bool_same, either_of, or_left, or_right}
+use Rattle.numbers.proofs.Laws.{bool_same}
 use Rattle.lattice.specs.Grid.{Limits}
 use Rattle.lattice.specs.Lattice.{FullLattice}
 use Rattle.weights.specs.CoarseEps.{eps_reads}
@@ -65,20 +66,20 @@ galerkin_hit_lem l e L c =
     bool_same (turned_hit l e L c || (any (galerkin_hit l e L) ts || any (forward_hit l e L) named)) (any (leads l e L) ts)
     (λ h. ⊎_elim
     (λ a. let t = any_in (forward_hit l e L) ts a in
-    in_any (leads l e L) ts t.0 t.1 (or_right (galerkin_hit l e L t.0) (in_any (forward_hit l e L) (operator_cols l Galerkin L t.0) t.0 (own_in l L t.0) t.2)))
+    in_any (leads l e L) ts t.0 t.1 (or_right (galerkin_hit l e L t.0) _ (in_any (forward_hit l e L) (operator_cols l Galerkin L t.0) t.0 (own_in l L t.0) t.2)))
     (λ a. ⊎_elim
-    (λ b. let t = any_in (galerkin_hit l e L) ts b in in_any (leads l e L) ts t.0 t.1 (or_left _ t.2))
+    (λ b. let t = any_in (galerkin_hit l e L) ts b in in_any (leads l e L) ts t.0 t.1 (or_left _ _ t.2))
     (λ b. let t = any_in (forward_hit l e L) named b in
     let u = each_in (operator_cols l Galerkin L) ts t.0 t.1 in
-    in_any (leads l e L) ts u.0 u.1 (or_right (galerkin_hit l e L u.0) (in_any (forward_hit l e L) (operator_cols l Galerkin L u.0) t.0 u.2 t.2)))
-    (either_of (any (galerkin_hit l e L) ts) (any (forward_hit l e L) named) a))
-    (either_of (turned_hit l e L c) (any (galerkin_hit l e L) ts || any (forward_hit l e L) named) h))
+    in_any (leads l e L) ts u.0 u.1 (or_right (galerkin_hit l e L u.0) _ (in_any (forward_hit l e L) (operator_cols l Galerkin L u.0) t.0 u.2 t.2)))
+    (or_cases (any (galerkin_hit l e L) ts) (any (forward_hit l e L) named) a))
+    (or_cases (turned_hit l e L c) (any (galerkin_hit l e L) ts || any (forward_hit l e L) named) h))
     (λ h. let t = any_in (leads l e L) ts h in
-    or_right (turned_hit l e L c) (⊎_elim
-    (λ a. or_left _ (in_any (galerkin_hit l e L) ts t.0 t.1 a))
+    or_right (turned_hit l e L c) _ (⊎_elim
+    (λ a. or_left _ _ (in_any (galerkin_hit l e L) ts t.0 t.1 a))
     (λ a. let u = any_in (forward_hit l e L) (operator_cols l Galerkin L t.0) a in
-    or_right (any (galerkin_hit l e L) ts) (in_any (forward_hit l e L) named u.0 (in_each (operator_cols l Galerkin L) ts t.0 u.0 t.1 u.1) u.2))
-    (either_of (galerkin_hit l e L t.0) (any (forward_hit l e L) (operator_cols l Galerkin L t.0)) t.2)))
+    or_right (any (galerkin_hit l e L) ts) _ (in_any (forward_hit l e L) named u.0 (in_each (operator_cols l Galerkin L) ts t.0 u.0 t.1 u.1) u.2))
+    (or_cases (galerkin_hit l e L t.0) (any (forward_hit l e L) (operator_cols l Galerkin L t.0)) t.2)))
 
 -- what a forward row reads of its fine level, the permittivity of one of its columns reads: so the row is reached just where one of its columns' permittivities is
 pub forward_hit_lem : (l : FullLattice) → Limits l.grid → (e L r : ℕ) → r < edges_on l L → forward_hit l e L r ≡ any (eps_hit l e (suc L)) (forward_cols l L r)
@@ -92,8 +93,8 @@ forward_hit_lem l limits e L r b =
     let n = reads_named l limits L r t.0 (subst (λ (k : ℕ). r < k) (sym (fine_edges_lem l L)) b) t.1 in
     in_any (eps_hit l e (suc L)) cols n.0 n.1 (in_any (eps_hit l e L) (eps_reads (two_at l L) n.0) t.0 n.2 t.2))
     (λ a. a)
-    (either_of (any (eps_hit l e L) reads) (any (eps_hit l e (suc L)) cols) h))
-    (λ h. or_right (any (eps_hit l e L) reads) h)
+    (or_cases (any (eps_hit l e L) reads) (any (eps_hit l e (suc L)) cols) h))
+    (λ h. or_right (any (eps_hit l e L) reads) _ h)
 
 -- ---- a change, by the flags: of any store, also one whose numbers were altered
 

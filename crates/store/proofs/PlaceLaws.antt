@@ -3,6 +3,7 @@ use mathlib.Core.Path.{◌≡◌, refl, sym, ◌∙◌}
 use mathlib.Core.Logic.{◌⊎◌, inl, inr, ⊎_elim}
 use mathlib.Core.List.{List, ◌∷◌, []}
 use mathlib.Core.Bool.{Bool, true, false, ◌||◌, false≢true}
+use Rattle.std.proofs.lemmas.Bool.{or_cases, or_right}
 use Rattle.numbers.specs.Lists.{In}
 use Rattle.store.specs.Space.{Space, Look, Lawful, puts, decided, is_in, meets}
 
@@ -14,14 +15,6 @@ told_or : {A : Type 0} (d : Dec A) (b : Bool) → A ⊎ (b ≡ true) → (decide
 told_or (yes a) b t = refl
 told_or (no h) b (inl a) = absurd (h a)
 told_or (no h) b (inr e) = e
-
-or_cases : (a b : Bool) → (a || b) ≡ true → (a ≡ true) ⊎ (b ≡ true)
-or_cases true b e = inl refl
-or_cases false b e = inr e
-
-or_right : (a b : Bool) → b ≡ true → (a || b) ≡ true
-or_right true b e = refl
-or_right false b e = e
 
 module _ (X : Space) where
   -- a place is in a list of places, or not

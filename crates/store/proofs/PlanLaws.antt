@@ -6,12 +6,11 @@ use mathlib.Core.Logic.{◌⊎◌, inl, inr, ⊎_elim}
 use mathlib.Core.List.{List, ◌∷◌, ◌++◌, []}
 use mathlib.Core.Option.{Option, none, some}
 use mathlib.Core.Bool.{Bool, true, false}
+use Rattle.std.proofs.lemmas.Bool.{and_from, and_parts, cases_Bool}
 use Rattle.numbers.specs.Lists.{In}
 use Rattle.numbers.proofs.MemberLaws.{in_append, in_left, in_right}
-use Rattle.numbers.proofs.Laws.{and_left, and_right}
 use Rattle.store.specs.Space.{Space, Look, Lawful, meets}
 use Rattle.store.specs.Plan.{Rules, Laws, step, run, all_fine, row_fine, fine, first_bad, reach, Stands, Holds, Consistent, Room, Rising, Sound, Alike}
-use Rattle.store.proofs.TestLaws.{bool?, and_both}
 use Rattle.store.proofs.PlaceLaws.{in?, meets_none, puts_shape, puts_out, puts_in, puts_nothing}
 
 -- `fine` says whether `first_bad` finds nothing
@@ -44,19 +43,19 @@ module _ {X : Space} (R : Rules X) where
   pub fine_at_lem : (ps : List X.P) (f : Look X) → all_fine R ps f ≡ true → (p : X.P) → In p ps → R.fine? p (f p) ≡ true
   unfolding all_fine
   fine_at_lem [] f h p i = absurd i
-  fine_at_lem (q ∷ ps) f h p (inl e) = rw e (and_left _ _ h)
-  fine_at_lem (q ∷ ps) f h p (inr i) = fine_at_lem ps f (and_right (R.fine? q (f q)) _ h) p i
+  fine_at_lem (q ∷ ps) f h p (inl e) = rw e ((and_parts _ _ h).0)
+  fine_at_lem (q ∷ ps) f h p (inr i) = fine_at_lem ps f ((and_parts (R.fine? q (f q)) _ h).1) p i
 
   pub at_fine : (ps : List X.P) (f : Look X) → ((p : X.P) → In p ps → R.fine? p (f p) ≡ true) → all_fine R ps f ≡ true
   unfolding all_fine
   at_fine [] f h = refl
-  at_fine (q ∷ ps) f h = and_both _ _ (h q (inl refl)) (at_fine ps f (λ p i. h p (inr i)))
+  at_fine (q ∷ ps) f h = and_from _ _ (h q (inl refl)) (at_fine ps f (λ p i. h p (inr i)))
 
   pub fine_is : (rs : List R.Row) (s : X.S) → fine R rs s ≡ is_none (first_bad R rs s)
   unfolding fine first_bad
   fine_is [] s = refl
   fine_is (r ∷ rs) s =
-      ⊎_elim (λ e. rw e (fine_is rs (step R s r))) (λ e. rw e refl) (bool? (row_fine R s r))
+      ⊎_elim (λ e. rw e (fine_is rs (step R s r))) (λ e. rw e refl) (cases_Bool (row_fine R s r))
 
   -- a run leaves each place that none of its rows writes
   pub run_outside : Lawful X → (rs : List R.Row) (s : X.S) (p : X.P) → (Stands R p rs → ⊥) → X.get (run R rs s) p ≡ X.get s p
@@ -153,7 +152,7 @@ module _ {X : Space} {R : Rules X} (L : Laws X R) where
       ⊎_elim
       (λ e. inl (reach R (R.writes r ++ hot) rs, rw e refl, reach_sound (R.writes r ++ hot) rs))
       (λ e. inr (meets_none X (R.reads r) hot e, rw e (reach_sound hot rs)))
-      (bool? (meets X (R.reads r) hot))
+      (cases_Bool (meets X (R.reads r) hot))
 
   -- A SOUND PLAN DOES THE WORK OF ALL ROWS: s is a store whose rows hold, a is a store that differs from it at most in the places hot
   module _ (s : X.S) where

@@ -7,11 +7,11 @@ use mathlib.Core.List.{List, ◌∷◌, ◌++◌, []}
 use mathlib.Core.Option.{Option, none, some, some-injective}
 use mathlib.Core.Bool.{true, false, false≢true}
 use native.Mathlib.Omega.{arith}
+use Rattle.std.proofs.lemmas.Bool.{cases_Bool}
 use Rattle.numbers.specs.Lists.{In}
 use Rattle.numbers.proofs.MemberLaws.{in_append, in_left, in_right}
 use Rattle.store.specs.Space.{Space, Look, meets}
 use Rattle.store.specs.Plan.{Rules, Laws, step, run, all_fine, row_fine, fine, first_bad, reach, reached, Stands, Free, Consistent, Finite, Room, Rising, Climbing, Sound, Alike}
-use Rattle.store.proofs.TestLaws.{bool?}
 use Rattle.store.proofs.PlaceLaws.{meets_at, meets_none}
 use Rattle.store.proofs.PlanLaws.{stands_in, in_stands, fine_at_lem, at_fine, is_none, fine_is, run_keeps, set_up_consistent, set_up_alike, reach_sound, plan_run, plan_first, first_fine, first_holds, rest_room}
 
@@ -92,7 +92,7 @@ module _ {X : Space} {R : Rules X} (L : Laws X R) where
   unfolding all_fine
   bad_at [] g e = absurd (false≢true (sym e))
   bad_at (p ∷ ps) g e =
-      ⊎_elim (λ h. let t = bad_at ps g (rw h at e) in (t.0, inr t.1, t.2)) (λ h. (p, inl refl, h)) (bool? (R.fine? p (g p)))
+      ⊎_elim (λ h. let t = bad_at ps g (rw h at e) in (t.0, inr t.1, t.2)) (λ h. (p, inl refl, h)) (cases_Bool (R.fine? p (g p)))
 
   abbrev FineRow : X.S → R.Row → Type 0
   FineRow s r = (p : X.P) → In p (R.writes r) → R.fine? p (X.get s p) ≡ true
@@ -121,7 +121,7 @@ module _ {X : Space} {R : Rules X} (L : Laws X R) where
       ⊎_elim
       (λ h. ⊎_elim (λ k. rw k (row_fine_lem q rs s u room h)) (λ j. none_fine rs (step R s q) u.2 (rest_room L q rs s room) (rw h at e) r j) i)
       (λ h. let e2 : some (R.level q) ≡ none = rw h at e in absurd (subst IsNone (sym e2) tt))
-      (bool? (row_fine R s q))
+      (cases_Bool (row_fine R s q))
 
   some_bad : (rs : List R.Row) (s : X.S) (l : ℕ) → Rising R rs → Climbing R rs → ((p : X.P) → Stands R p rs → X.Has (X.shape s) p) → first_bad R rs s ≡ some l
       → ((r : R.Row) × In r rs × (R.level r ≡ l) × BadRow (run R rs s) r) × ((r : R.Row) → In r rs → R.level r < l → FineRow (run R rs s) r)
@@ -137,7 +137,7 @@ module _ {X : Space} {R : Rules X} (L : Laws X R) where
         (q, inl refl, k, row_bad q rs s u room h),
         λ r i m. absurd (⊎_elim (λ j. let g : R.level r ≡ R.level q = ap R.level j in omega arith) (λ j. let g = c.0 r j in omega arith) i),
       ))
-      (bool? (row_fine R s q))
+      (cases_Bool (row_fine R s q))
 
   -- no level: every number that a row wrote is finite
   pub accepted_finite : (s : X.S) → Room R (X.shape s) → first_bad R R.full s ≡ none → Finite R (run R R.full s)
@@ -166,7 +166,7 @@ module _ {X : Space} (R : Rules X) where
   unfolding reach
   reach_within hot [] p m = m
   reach_within hot (r ∷ rs) p m =
-      ⊎_elim (λ e. ⊎_elim inl (λ k. inr (reach_within (R.writes r ++ hot) rs p k)) (rw (reach_yes hot r rs e) at m)) (λ e. inr (reach_within hot rs p (rw (reach_no hot r rs e) at m))) (bool? (meets X (R.reads r) hot))
+      ⊎_elim (λ e. ⊎_elim inl (λ k. inr (reach_within (R.writes r ++ hot) rs p k)) (rw (reach_yes hot r rs e) at m)) (λ e. inr (reach_within hot rs p (rw (reach_no hot r rs e) at m))) (cases_Bool (meets X (R.reads r) hot))
 
   reach_only : (hot : List X.P) (rs : List R.Row) (r : R.Row) → In r (reach R hot rs) → Touched hot (reach R hot rs) r
   unfolding reach
@@ -178,7 +178,7 @@ module _ {X : Space} (R : Rules X) where
       (λ j. let t = reach_only (R.writes q ++ hot) rs r j in (t.0, t.1, ⊎_elim (λ h. ⊎_elim (λ a. inr (inl a)) inl (in_append t.0 (R.writes q) hot h)) (λ m. inr (inr m)) t.2))
       (rw (reach_yes hot q rs e) at i)))
       (λ e. rw (reach_no hot q rs e) (reach_only hot rs r (rw (reach_no hot q rs e) at i)))
-      (bool? (meets X (R.reads q) hot))
+      (cases_Bool (meets X (R.reads q) hot))
 
   reach_all : (hot : List X.P) (rs : List R.Row) → Rising R rs → (r : R.Row) → In r rs → Touched hot (reach R hot rs) r → In r (reach R hot rs)
   reach_all hot [] u r i t = absurd i
@@ -191,7 +191,7 @@ module _ {X : Space} (R : Rules X) where
       (λ k. absurd (none_here t.0 e (rw k at t.1) (rw (reach_no hot q rs e) at t.2)))
       (λ j. reach_all hot rs u.2 r j (t.0, t.1, rw (reach_no hot q rs e) at t.2))
       i))
-      (bool? (meets X (R.reads q) hot))
+      (cases_Bool (meets X (R.reads q) hot))
     where
       more : (p : X.P) → In p hot ⊎ Stands R p (q ∷ reach R (R.writes q ++ hot) rs) → In p (R.writes q ++ hot) ⊎ Stands R p (reach R (R.writes q ++ hot) rs)
       more p (inl h) = inl (in_right p (R.writes q) hot h)

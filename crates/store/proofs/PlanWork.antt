@@ -6,12 +6,12 @@ use mathlib.Core.Logic.{inl, inr, ⊎_elim}
 use mathlib.Core.List.{List, ◌∷◌, ◌++◌, []}
 use mathlib.Core.Option.{Option, none, some}
 use mathlib.Core.Bool.{Bool, true, false, cond, false≢true}
+use Rattle.std.proofs.lemmas.Bool.{cases_Bool}
 use Rattle.numbers.specs.Lists.{In}
 use Rattle.numbers.proofs.MemberLaws.{in_append, in_left, in_right}
-use Rattle.store.specs.Space.{Space, Lawful, puts, meets}
-use Rattle.store.specs.Plan.{Rules, Laws, step, run, row_fine, fine, first_bad, tried, reach, reached, Stands, Consistent, Room, Rising, Sound}
-use Rattle.store.proofs.TestLaws.{bool?}
-use Rattle.store.proofs.PlaceLaws.{meets_at, at_meets, puts_is, puts_back}
+use Rattle.store.specs.Space.{Space, Lawful, meets}
+use Rattle.store.specs.Plan.{Rules, Laws, step, run, row_fine, first_bad, reach, reached, Stands, Consistent, Room, Rising, Sound}
+use Rattle.store.proofs.PlaceLaws.{meets_at, at_meets, puts_is}
 use Rattle.store.proofs.PlanLaws.{same_run, consistent_run, reach_sound}
 use Rattle.store.proofs.PlanTheorem.{Touched, reach_yes, reach_no}
 
@@ -20,24 +20,6 @@ module _ {X : Space} (R : Rules X) (W : Lawful X) where
   pub step_is : (s t : X.S) (r : R.Row) → X.shape t ≡ X.shape s → ((p : X.P) → In p (R.writes r) → X.get t p ≡ R.calc (X.get s) r p)
       → ((p : X.P) → (In p (R.writes r) → ⊥) → X.get t p ≡ X.get s p) → t ≡ step R s r
   step_is s t r e h n = puts_is X W s t (R.writes r) (R.calc (X.get s) r) e h n
-
-  -- what a call that saves, writes, goes on and puts back has to show: it returns whether all is finite, and leaves `tried`
-  pub tried_none : (s : X.S) → (true ≡ fine R [] s) × (s ≡ tried R [] s)
-  unfolding tried fine run
-  tried_none s = (refl, refl)
-
-  pub tried_no : (r : R.Row) (rs : List R.Row) (s : X.S) → row_fine R s r ≡ false → (false ≡ fine R (r ∷ rs) s) × (s ≡ tried R (r ∷ rs) s)
-  unfolding tried fine run
-  tried_no r rs s e = (rw e refl, rw e refl)
-
-  pub tried_yes : (r : R.Row) (rs : List R.Row) (s t : X.S) → row_fine R s r ≡ true → true ≡ fine R rs (step R s r) → t ≡ tried R rs (step R s r) → (true ≡ fine R (r ∷ rs) s) × (t ≡ tried R (r ∷ rs) s)
-  unfolding tried fine run
-  tried_yes r rs s t e f k = (rw (e, ← f) refl, rw k (rw (e, ← f) refl))
-
-  pub tried_back : (r : R.Row) (rs : List R.Row) (s t : X.S) → row_fine R s r ≡ true → false ≡ fine R rs (step R s r) → t ≡ tried R rs (step R s r)
-      → (false ≡ fine R (r ∷ rs) s) × (puts X t (R.writes r) (X.get s) ≡ tried R (r ∷ rs) s)
-  unfolding tried fine run
-  tried_back r rs s t e f k = (rw (e, ← f) refl, rw k (rw (e, ← f) (puts_back X W s (R.writes r) (R.calc (X.get s) r))))
 
 -- a plan of two parts
 abbrev pub or_else : Option ℕ → Option ℕ → Option ℕ
@@ -53,7 +35,7 @@ module _ {X : Space} (R : Rules X) where
   pub first_append : (ps qs : List R.Row) (s : X.S) → first_bad R (ps ++ qs) s ≡ or_else (first_bad R ps s) (first_bad R qs (run R ps s))
   unfolding run first_bad
   first_append [] qs s = refl
-  first_append (p ∷ ps) qs s = ⊎_elim (λ e. rw e (first_append ps qs (step R s p))) (λ e. rw e refl) (bool? (row_fine R s p))
+  first_append (p ∷ ps) qs s = ⊎_elim (λ e. rw e (first_append ps qs (step R s p))) (λ e. rw e refl) (cases_Bool (row_fine R s p))
 
   -- the rows that pass a test
   unfoldable pub picked : (R.Row → Bool) → List R.Row → List R.Row
@@ -72,7 +54,7 @@ module _ {X : Space} (R : Rules X) where
   unfolding picked
   picked_within t [] p m = m
   picked_within t (r ∷ rs) p m =
-      ⊎_elim (λ e. ⊎_elim inl (λ k. inr (picked_within t rs p k)) (rw (picked_yes t r rs e) at m)) (λ e. inr (picked_within t rs p (rw (picked_no t r rs e) at m))) (bool? (t r))
+      ⊎_elim (λ e. ⊎_elim inl (λ k. inr (picked_within t rs p k)) (rw (picked_yes t r rs e) at m)) (λ e. inr (picked_within t rs p (rw (picked_no t r rs e) at m))) (cases_Bool (t r))
 
   -- moving a row that is taken from the plan to the places that have changed
   taken_more : (hot : List X.P) (q : R.Row) (ps : List R.Row) (r : R.Row) → Touched R hot (q ∷ ps) r → Touched R (R.writes q ++ hot) ps r
@@ -89,7 +71,7 @@ module _ {X : Space} (R : Rules X) where
       ⊎_elim
       (λ e. inl (picked t rs, picked_yes t q rs e, picked_sound t (R.writes q ++ hot) rs (λ r i m. h r (inr i) (rw (picked_yes t q rs e) (taken_less hot q (picked t rs) r m)))))
       (λ e. inr ((λ p i j. false≢true (sym e ∙ h q (inl refl) (p, i, inl j))), rw (picked_no t q rs e) (picked_sound t hot rs (λ r i m. h r (inr i) (rw (picked_no t q rs e) m)))))
-      (bool? (t q))
+      (cases_Bool (t q))
 
   -- a test that takes just these rows gives the rows that are reached
   pub picked_reach : (t : R.Row → Bool) (hot : List X.P) (rs : List R.Row) → Rising R rs
@@ -104,9 +86,9 @@ module _ {X : Space} (R : Rules X) where
       (ap (λ (l : List R.Row). q ∷ l) (picked_reach t (R.writes q ++ hot) rs u.2
       (λ r i n. h r (inr i) (rw (picked_yes t q rs e) (taken_less hot q (picked t rs) r n)))
       (λ r i n. taken_more hot q (picked t rs) r (rw (picked_yes t q rs e) at (k r (inr i) n))))))
-      (λ e. rw (picked_no t q rs e, reach_no R hot q rs (⊎_elim (λ y. absurd (false≢true (sym e ∙ h q (inl refl) (missed y)))) (λ y. y) (bool? (meets X (R.reads q) hot))))
+      (λ e. rw (picked_no t q rs e, reach_no R hot q rs (⊎_elim (λ y. absurd (false≢true (sym e ∙ h q (inl refl) (missed y)))) (λ y. y) (cases_Bool (meets X (R.reads q) hot))))
       (picked_reach t hot rs u.2 (λ r i n. h r (inr i) (rw (picked_no t q rs e) n)) (λ r i n. rw (picked_no t q rs e) at (k r (inr i) n))))
-      (bool? (t q))
+      (cases_Bool (t q))
     where
       missed : meets X (R.reads q) hot ≡ true → Touched R hot (picked t (q ∷ rs)) q
       missed y = let n = meets_at X (R.reads q) hot y in (n.0, n.1, inl n.2)
@@ -115,16 +97,7 @@ module _ {X : Space} (R : Rules X) where
   pub picked_append : (t : R.Row → Bool) (ps qs : List R.Row) → picked t (ps ++ qs) ≡ picked t ps ++ picked t qs
   unfolding picked
   picked_append t [] qs = refl
-  picked_append t (p ∷ ps) qs = ⊎_elim (λ e. rw e (ap (λ (l : List R.Row). p ∷ l) (picked_append t ps qs))) (λ e. rw e (picked_append t ps qs)) (bool? (t p))
-
-  -- where the first row is or is not finite
-  pub first_no : (r : R.Row) (rs : List R.Row) (s : X.S) → row_fine R s r ≡ false → first_bad R (r ∷ rs) s ≡ some (R.level r)
-  unfolding first_bad
-  first_no r rs s e = rw e refl
-
-  pub first_go : (r : R.Row) (rs : List R.Row) (s : X.S) → row_fine R s r ≡ true → first_bad R (r ∷ rs) s ≡ first_bad R rs (step R s r)
-  unfolding first_bad
-  first_go r rs s e = rw e refl
+  picked_append t (p ∷ ps) qs = ⊎_elim (λ e. rw e (ap (λ (l : List R.Row). p ∷ l) (picked_append t ps qs))) (λ e. rw e (picked_append t ps qs)) (cases_Bool (t p))
 
   -- a sound plan rises, as the rows do that it is taken from
   pub sound_within : (hot : List X.P) (ps rs : List R.Row) → Sound R hot ps rs → (p : X.P) → Stands R p ps → Stands R p rs

@@ -1,8 +1,8 @@
 -- Lists of flags and bits, raised one after another in a loop, and what they tell. Assumes nothing.
 use Prim.Native.Nat.{ℕ, ◌+◌, ◌*◌, ◌/◌, ◌%◌, ◌≤◌, ◌<◌}
 use mathlib.Core.Path.{◌≡◌, refl, sym, ap, subst, ◌∙◌}
-use mathlib.Core.Logic.{◌⊎◌, inl, inr, ⊎_elim}
-use mathlib.Core.Bool.{Bool, true, false, ◌||◌, ◌&&◌}
+use mathlib.Core.Logic.{inl, inr, ⊎_elim}
+use mathlib.Core.Bool.{Bool, true, false, ◌||◌, ◌&&◌, and-true}
 use mathlib.Core.List.{List, [], ◌∷◌}
 use native.Mathlib.Omega.{arith}
 use native.Mathlib.Decide.{dec_lt}
@@ -10,9 +10,10 @@ use borrow.Author.Tests.{eq-eqb, ne_eqb}
 use lib.Dec.{eqb}
 use lib.ListN.{length, get_or, set, length-set}
 use lib.Seq.{get_or-set_same, get_or-set_other, set-get_or}
+use Rattle.std.proofs.lemmas.Bool.{and_right, cases_eq, or_right}
 use Rattle.numbers.specs.Lists.{In, any_flag}
 use Rattle.numbers.proofs.FlagLaws.{any_flag_nil, any_flag_cons}
-use Rattle.numbers.proofs.Laws.{or_right, and_true, and_false}
+use Rattle.numbers.proofs.Laws.{and_true, and_false}
 use Rattle.numbers.proofs.MarkedLaws.{named_by, Spread, Mutual, named_any, named_none}
 use Rattle.operators.specs.Bits.{bit_at, mix_of, single}
 use Rattle.operators.proofs.WordLaws.{bit_mix, bit_unit}
@@ -27,21 +28,6 @@ or_none : (a b : Bool) → b ≡ false → (a || b) ≡ a
 or_none true b e = refl
 or_none false b e = e
 
-and_none : (a b : Bool) → b ≡ false → (a && b) ≡ false
-and_none true b e = e
-and_none false b e = refl
-
-and_same : (a : Bool) → (a && true) ≡ a
-and_same true = refl
-and_same false = refl
-
-pub same? : (a b : ℕ) → (a ≡ b) ⊎ (a ≡ b → ⊥)
-same? a b =
-    elim (dec_lt a b) as (λ _. (a ≡ b) ⊎ (a ≡ b → ⊥)) [
-      | yes h ↦ inr (λ e. omega arith)
-      | no h ↦ elim (dec_lt b a) as (λ _. (a ≡ b) ⊎ (a ≡ b → ⊥)) [ yes k ↦ inr (λ e. omega arith) | no k ↦ inl (omega arith) ]
-    ]
-
 -- what only a rediscretized store has
 pub only_most : (ch : Choice) (n : ℕ) → only_count ch n ≤ n
 only_most Galerkin n = omega arith
@@ -53,7 +39,7 @@ pub raise_not : (xs : List Bool) (r : ℕ) (b : Bool) → b ≡ false → xs ≡
 raise_not xs r b e = sym (set-get_or xs r false) ∙ ap (λ (v : Bool). set xs r v) (sym (or_none (get_or xs r false) b e))
 
 pub raise_set : (xs : List Bool) (r : ℕ) (b : Bool) → b ≡ true → set xs r true ≡ set xs r (get_or xs r false || b)
-raise_set xs r b e = ap (λ (v : Bool). set xs r v) (sym (or_right (get_or xs r false) e))
+raise_set xs r b e = ap (λ (v : Bool). set xs r v) (sym (or_right (get_or xs r false) _ e))
 
 -- ---- the loop over rows
 
@@ -125,7 +111,7 @@ module _ (ws : List ℕ) (q : ℕ) where
       ⊎_elim
       (λ j. eq-eqb (k % 64) (q % 64) (ap (λ (x : ℕ). x % 64) j) ∙ sym (eq-eqb k q j))
       (λ j. ne_eqb (k % 64) (q % 64) (λ i. j (omega arith)) ∙ sym (ne_eqb k q j))
-      (same? k q)
+      (cases_eq k q)
 
   pub bit_raised : (b : Bool) {u v : ℕ} {vs : List ℕ} → b ≡ true → q < 64 * length ws → u ≡ single (q % 64) → v ≡ mix_of true (get_or ws (q / 64) 0) true u → vs ≡ set ws (q / 64) v → BitRaised q b ws vs
   bit_raised b {u} {v} {vs} on h e d f =
@@ -145,7 +131,7 @@ module _ (ws : List ℕ) (q : ℕ) where
             ap (λ (us : List ℕ). bit_at (get_or us (k / 64) 0) (k % 64)) f
             ∙ ap (λ (x : ℕ). bit_at x (k % 64)) (get_or-set_other ws (q / 64) (k / 64) v 0 j)
             ∙ sym (or_none (flag_at ws k) (b && eqb k q) (and_true b (eqb k q) on ∙ z)))
-            (same? (k / 64) (q / 64));
+            (cases_eq (k / 64) (q / 64));
       }
 
   pub bit_left : (b : Bool) → b ≡ false → BitRaised q b ws ws
@@ -160,7 +146,7 @@ pub bits_turn : {base n : ℕ} {xs : List Bool} {ws us vs : List ℕ} → BitsRa
     → BitsRaised base (n + 1) xs ws vs (base + (n + 1))
 bits_turn {base} {n} {xs} {ws} {us} {vs} w v =
     let other : (k : ℕ) → (k ≡ base + n → ⊥) → flag_at vs k ≡ flag_at us k =
-    λ k d. v.each_is k ∙ or_none (flag_at us k) (get_or xs n false && eqb k (base + n)) (and_none (get_or xs n false) (eqb k (base + n)) (ne_eqb k (base + n) d)) in
+    λ k d. v.each_is k ∙ or_none (flag_at us k) (get_or xs n false && eqb k (base + n)) (and_right (get_or xs n false) (eqb k (base + n)) (ne_eqb k (base + n) d)) in
     record {
       same_long = v.same_long ∙ w.same_long;
       next_is = refl;
@@ -170,7 +156,7 @@ bits_turn {base} {n} {xs} {ws} {us} {vs} w v =
             | no j ↦
                 let k : i ≡ n = omega arith in
                 rw k (v.each_is (base + n)
-                ∙ (λ t. w.high_is (base + n) (omega arith) t || (ap (λ (x : Bool). get_or xs n false && x) (eq-eqb (base + n) (base + n) refl) ∙ and_same (get_or xs n false)) t))
+                ∙ (λ t. w.high_is (base + n) (omega arith) t || (ap (λ (x : Bool). get_or xs n false && x) (eq-eqb (base + n) (base + n) refl) ∙ and-true (get_or xs n false)) t))
           ];
       low_is = λ k h. other k (λ z. omega arith) ∙ w.low_is k h;
       high_is = λ k h. other k (λ z. omega arith) ∙ w.high_is k (omega arith);

@@ -7,11 +7,11 @@ use mathlib.Core.List.{List, ◌∷◌, ◌++◌, map, []}
 use native.Mathlib.Omega.{arith}
 use lib.ListN.{length}
 use borrow.Author.Tests.{eq-eqb, eqb-true}
+use Rattle.std.proofs.lemmas.Bool.{cases_Bool, or_cases, or_left, or_right}
 use Rattle.numbers.specs.Lists.{tabulate, each, start_of, In}
 use Rattle.numbers.specs.Transpose.{turned_reads}
 use Rattle.numbers.proofs.MemberLaws.{in_append, in_left, in_right}
 use Rattle.numbers.proofs.SumLaws.{sum_to_zero}
-use Rattle.numbers.proofs.Laws.{either_of, or_left, or_right}
 use Rattle.numbers.proofs.TransposedLaws.{reads_weight, weight_reads_lem, in_tabulate, tabulate_in}
 use Rattle.numbers.proofs.StoredLaws.{place_of}
 use Rattle.numbers.proofs.CollectSums.{in_at}
@@ -33,7 +33,6 @@ use Rattle.store.specs.declared.Choice.{Choice}
 use Rattle.store.specs.declared.Choice.TheVariants.{Galerkin, Rediscretized}
 use Rattle.store.specs.Rows.{Row, coarse, averaged, forward, turned, volume, share, operator, kind_of, from, count, eps_spot, averaged_spot, eps_spots, averaged_spots, forward_spots, turned_spots, operator_spots, operator_reading, reading, writes, full, rules}
 use Rattle.store.specs.Reach.{any, eps_hit, averaged_hit, forward_hit, turned_hit, galerkin_hit, rediscretized_hit, operator_hit, hit}
-use Rattle.store.proofs.TestLaws.{bool?}
 use Rattle.store.proofs.PlanLaws.{in_stands, stands_in}
 use Rattle.store.proofs.PlanTheorem.{Touched}
 use Rattle.store.proofs.PlanWork.{picked, picked_reach}
@@ -51,13 +50,13 @@ pub any_in : (f : ℕ → Bool) (xs : List ℕ) → any f xs ≡ true → (x : �
 unfolding any
 any_in f [] h = absurd (false≢true h)
 any_in f (x ∷ xs) h =
-    ⊎_elim (λ e. (x, inl refl, e)) (λ e. let t = any_in f xs (rw e at h) in (t.0, inr t.1, t.2)) (bool? (f x))
+    ⊎_elim (λ e. (x, inl refl, e)) (λ e. let t = any_in f xs (rw e at h) in (t.0, inr t.1, t.2)) (cases_Bool (f x))
 
 pub in_any : (f : ℕ → Bool) (xs : List ℕ) (x : ℕ) → In x xs → f x ≡ true → any f xs ≡ true
 unfolding any
 in_any f [] x i h = absurd i
 in_any f (y ∷ xs) x (inl e) h = let k : f y ≡ true = rw e at h in rw k refl
-in_any f (y ∷ xs) x (inr i) h = ⊎_elim (λ e. rw e refl) (λ e. rw e (in_any f xs x i h)) (bool? (f y))
+in_any f (y ∷ xs) x (inr i) h = ⊎_elim (λ e. rw e refl) (λ e. rw e (in_any f xs x i h)) (cases_Bool (f y))
 
 some_long : {A : Type 0} (a : A) (xs : List A) → In a xs → 0 < length xs
 some_long a [] i = absurd i
@@ -111,7 +110,7 @@ forward_some l e L r h =
     ⊎_elim
     (λ k. let t = any_in (eps_hit l e L) (weight_reads (two_at l L) r) k in omega (arith, some_long t.0 (weight_reads (two_at l L) r) t.1, reads_long (two_at l L) r))
     (λ k. let t = any_in (eps_hit l e (suc L)) (weight_columns (two_at l L) r) k in some_long t.0 (weight_columns (two_at l L) r) t.1)
-    (either_of (any (eps_hit l e L) (weight_reads (two_at l L) r)) (any (eps_hit l e (suc L)) (weight_columns (two_at l L) r)) h)
+    (or_cases (any (eps_hit l e L) (weight_reads (two_at l L) r)) (any (eps_hit l e (suc L)) (weight_columns (two_at l L) r)) h)
 
 turned_some : (l : FullLattice) (e L c : ℕ) → turned_hit l e L c ≡ true → 0 < length (turned_cols l L c)
 unfolding turned_hit
@@ -287,13 +286,13 @@ module _ (l : FullLattice) (limits : Limits l.grid) (m e : ℕ) (base : e < edge
       let named = each (operator_cols l Galerkin L) ts in
       let forth = each (forward_spots l Galerkin m L) named in
       ⊎_elim
-      (λ a. or_left _ (whole_hot l limits m e base Galerkin (turned L c) (o.1, o.2) a))
-      (λ a. or_right (turned_hit l e L c) (⊎_elim
+      (λ a. or_left _ _ (whole_hot l limits m e base Galerkin (turned L c) (o.1, o.2) a))
+      (λ a. or_right (turned_hit l e L c) _ (⊎_elim
       (λ b. let u = some_each l limits m e base Galerkin (operator_spots l Galerkin m L) ts b in
-      or_left _ (in_any (galerkin_hit l e L) ts u.0 u.1 (fine_hot L u.0 o.1 (v.turned_low L c u.0 u.1) u.2)))
+      or_left _ _ (in_any (galerkin_hit l e L) ts u.0 u.1 (fine_hot L u.0 o.1 (v.turned_low L c u.0 u.1) u.2)))
       (λ b. let u = some_each l limits m e base Galerkin (forward_spots l Galerkin m L) named b in
       let n = each_in (operator_cols l Galerkin L) ts u.0 u.1 in
-      or_right (any (galerkin_hit l e L) ts) (in_any (forward_hit l e L) named u.0 u.1
+      or_right (any (galerkin_hit l e L) ts) _ (in_any (forward_hit l e L) named u.0 u.1
       (whole_hot l limits m e base Galerkin (forward L u.0) (o.1, v.operator_low L n.0 u.0 (v.turned_low L c n.0 n.1) n.2) u.2)))
       (some_either l limits m e base Galerkin fine forth a)))
       (some_either l limits m e base Galerkin (turned_spots l Galerkin m L c) (fine ++ forth) t)
@@ -319,8 +318,8 @@ module _ (l : FullLattice) (limits : Limits l.grid) (m e : ℕ) (base : e < edge
       let n = each_in (operator_cols l Galerkin L) ts u.0 u.1 in
       some_right l limits m e base Galerkin fine forth (each_some l limits m e base Galerkin (forward_spots l Galerkin m L) named u.0 u.1
       (hot_whole l limits m e base Galerkin (forward L u.0) (o.1, v.operator_low L n.0 u.0 (v.turned_low L c n.0 n.1) n.2) (forward_some l e L u.0 u.2) u.2)))
-      (either_of (any (galerkin_hit l e L) ts) (any (forward_hit l e L) named) a)))
-      (either_of (turned_hit l e L c) (any (galerkin_hit l e L) ts || any (forward_hit l e L) named) t)
+      (or_cases (any (galerkin_hit l e L) ts) (any (forward_hit l e L) named) a)))
+      (or_cases (turned_hit l e L c) (any (galerkin_hit l e L) ts || any (forward_hit l e L) named) t)
   hot_operator Rediscretized L r o t =
       some_averaged l limits m e base Rediscretized tt L (stencil_reads (lattice_at l L) r) o.1 (λ c i. v.stencil_low L r c o.2 i) t
 
@@ -359,8 +358,8 @@ module _ (l : FullLattice) (limits : Limits l.grid) (m e : ℕ) (base : e < edge
     some_hit (averaged L r) o t = averaged_some l limits m e base ch o.2 L (averaged_reads (two_at l L) r) (omega (arith, o.0)) (λ c i. v.averaged_low L r c o.1 i) t
     some_hit (forward L r) o t =
         ⊎_elim
-        (λ a. or_left _ (eps_some l limits m e base ch L (weight_reads (two_at l L) r) (omega (arith, o.0)) (λ c i. v.weight_low L r c o.1 i) a))
-        (λ a. or_right (any (eps_hit l e L) (weight_reads (two_at l L) r)) (eps_some l limits m e base ch (suc L) (forward_cols l L r) o.0 (λ c i. v.forward_low L r c o.1 i) a))
+        (λ a. or_left _ _ (eps_some l limits m e base ch L (weight_reads (two_at l L) r) (omega (arith, o.0)) (λ c i. v.weight_low L r c o.1 i) a))
+        (λ a. or_right (any (eps_hit l e L) (weight_reads (two_at l L) r)) _ (eps_some l limits m e base ch (suc L) (forward_cols l L r) o.0 (λ c i. v.forward_low L r c o.1 i) a))
         (some_either l limits m e base ch (eps_spots l ch m L (weight_reads (two_at l L) r)) (eps_spots l ch m (suc L) (forward_cols l L r)) t)
     some_hit (turned L c) o t = turned_hot L c o.0 t
     some_hit (volume L r) o t = absurd t.1
@@ -379,7 +378,7 @@ module _ (l : FullLattice) (limits : Limits l.grid) (m e : ℕ) (base : e < edge
         ⊎_elim
         (λ a. some_left l limits m e base ch first second (some_eps l limits m e base ch L (weight_reads (two_at l L) r) (omega (arith, o.0)) (λ c i. v.weight_low L r c o.1 i) a))
         (λ a. some_right l limits m e base ch first second (some_eps l limits m e base ch (suc L) (forward_cols l L r) o.0 (λ c i. v.forward_low L r c o.1 i) a))
-        (either_of (any (eps_hit l e L) (weight_reads (two_at l L) r)) (any (eps_hit l e (suc L)) (forward_cols l L r)) t)
+        (or_cases (any (eps_hit l e L) (weight_reads (two_at l L) r)) (any (eps_hit l e (suc L)) (forward_cols l L r)) t)
     hit_some (turned L c) o t = hot_turned L c o.0 t
     hit_some (volume L r) o t = absurd (false≢true t)
     hit_some (share L c) o t =
@@ -430,13 +429,13 @@ module _ (l : FullLattice) (limits : Limits l.grid) (m e : ℕ) (base : e < edge
       ⊎_elim
       (λ h. ⊎_elim (λ z. (inl z, ap test z ∙ h)) (λ j. let t = picked_in rs r j in (inr t.0, t.1)) (rw h at i))
       (λ h. let t = picked_in rs r (rw h at i) in (inr t.0, t.1))
-      (bool? (test q))
+      (cases_Bool (test q))
 
   in_picked : (rs : List Row) (r : Row) → In r rs → test r ≡ true → In r (picked (rules l ch m) test rs)
   unfolding picked
   in_picked [] r i h = absurd i
   in_picked (q ∷ rs) r (inl z) h = let k : test q ≡ true = sym (ap test z) ∙ h in rw k (inl z)
-  in_picked (q ∷ rs) r (inr i) h = ⊎_elim (λ k. rw k (inr (in_picked rs r i h))) (λ k. rw k (in_picked rs r i h)) (bool? (test q))
+  in_picked (q ∷ rs) r (inr i) h = ⊎_elim (λ k. rw k (inr (in_picked rs r i h))) (λ k. rw k (in_picked rs r i h)) (cases_Bool (test q))
 
   abbrev hot : List Place
   hot = cells (spot permittivity e)

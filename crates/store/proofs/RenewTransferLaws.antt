@@ -37,6 +37,9 @@ use Rattle.weights.proofs.NoRepeats.{names_no_edge_twice}
 use Rattle.weights.proofs.ProductLaws.{count_product}
 use Rattle.weights.proofs.PairLaws.{two_at_lem, paired_at}
 use Rattle.weights.proofs.EpsLaws.{Chain, chain, fine_in, coarse_in, nested_in, chain_room, eps_same}
+use Rattle.lattice.specs.Sound.{full}
+use Rattle.weights.specs.Pair.{two}
+use Rattle.weights.specs.declared.pair.Pair.{Pair}
 use Rattle.operators.specs.Averaged.{averaged_eps, PairedLines}
 use Rattle.operators.specs.LevelLists.{edges_on}
 use Rattle.operators.proofs.HatLaws.{pairs_at}
@@ -51,27 +54,22 @@ use Rattle.store.specs.Rows.{coarse, averaged, forward, turned, eps_in, averaged
 use Rattle.store.specs.Renewed.{Fixed, Five, five, store_of, FiveRoom, Shaped}
 use Rattle.store.specs.Parts.{row_by, size_by, part_size, part_off, part_count, flagged_to, flagged_part}
 use Rattle.store.specs.Flagged.{PartFlags, PairAt, Made, with_eps, with_forward, with_turned, StartsAt, WeightsReady, TurnedReady}
+use Rattle.store.specs.Hierarchy.{LevelPair}
 use Rattle.store.specs.declared.Choice.{Choice}
 use Rattle.store.specs.declared.Choice.TheVariants.{Galerkin, Rediscretized}
 use Rattle.store.specs.declared.transfers.Offsets.{Offsets}
-use Rattle.store.proofs.LineLaws.{both_lines, lines_two}
+use Rattle.store.proofs.LineLaws.{both_lines, lines_two, level_two}
 use Rattle.numbers.proofs.PartLaws.{part_room}
 use Rattle.store.proofs.ColumnLaws.{turned_cols_are}
 use Rattle.store.proofs.ColumnLaws.{turned_many}
 use Rattle.store.proofs.SizeLaws.{edges_few, forward_few, eps_low, starts_low, forward_low, turned_low}
 use Rattle.store.proofs.AveragedLaws.{averaged_low, averaged_apart}
 use Rattle.store.proofs.WorkLaws.{look_from}
-use Rattle.store.proofs.FlaggedLaws.{part_is, part_size_lem, number_laid, number_finite, row_renewed}
+use Rattle.store.proofs.FlaggedLaws.{part_is, number_laid, number_finite, row_renewed}
 
 -- ---- the flags of a part are there
 
 module _ {l : FullLattice} {ch : Choice} {m base : ℕ} {flags : List ℕ} (L k n : ℕ) (h : k < 7) (f : PartFlags l ch m (suc (7 * L + k)) base flags) (e : n ≡ size_by l ch k L) where
-  pub flag_there : (i : ℕ) → i < n → base + i < 64 * length flags
-  flag_there i b = omega (arith, f.there, part_size_lem l ch m L k h, e)
-
-  pub flag_small : (K : ℕ) → Limits l.grid → n ≡ edges_on l K → (i : ℕ) → i < n → base + i ≤ 2 ^ 40
-  flag_small K limits d i b = omega (arith, f.low, edges_few l limits K)
-
   pub part_end : flagged_to (row_by k L) flags base n ≡ flagged_part l ch m flags (suc (7 * L + k))
   part_end = ap (flagged_to (row_by k L) flags base) e ∙ part_is l ch m flags base L k h f.base_is
 
@@ -173,6 +171,16 @@ pub pair_at_lem : (l : FullLattice) → Limits l.grid → (m : ℕ) {lines : Lis
 pair_at_lem l limits m has {L} low p q n =
     let e = both_lines l limits m has low p q in
     record { limits = limits; fine_is = e.0; coarse_is = e.1; nodes_are = n ∙ ap (λ (t : TwoLevels). tabulate (node_no t) 195 0) (lines_two l limits m has low p q) }
+
+-- from a pair of the hierarchy
+pub pair_nodes_at : {l : FullLattice} → Limits l.grid → {L : ℕ} {pair : Pair} {nn : List ℕ} → LevelPair l L pair → nn ≡ tabulate (node_no (two pair)) 195 0
+    → PairAt l L pair.fine pair.coarse nn
+pair_nodes_at limits p e =
+    record { limits = limits; fine_is = p.fine_is; coarse_is = p.coarse_is; nodes_are = e ∙ ap (λ (t : TwoLevels). tabulate (node_no t) 195 0) (level_two p limits) }
+
+-- the lines of such a pair are nested
+pub pair_nested : {l : FullLattice} → Limits l.grid → {L : ℕ} {pair : Pair} → LevelPair l L pair → PairedLines (full pair.l) pair.fine pair.coarse
+pair_nested {l} limits {L} p = rw (p.base_is, p.fine_is, p.coarse_is) (pairs_at l limits L)
 
 -- ---- what a look finds
 
@@ -344,6 +352,12 @@ weights_ready {l} L limits {fine} {next} fe ne {gf} {gc} {ps} {ns} {ds} {xs} s {
           numbers_row_lem s (read_from eps from) (read_from eps to) r (omega arith)
           ∙ (λ i. weight_numbers (two i) (read_from eps (places.0 i)) (read_from eps (places.1 i)) r);
     }
+
+-- the same of a pair of the hierarchy
+pub pair_weights : {l : FullLattice} (L : ℕ) → Limits l.grid → {pair : Pair} → LevelPair l L pair → {gf gc : Grid3d} {ps ns ds : List ℕ} {xs : List Float}
+    → Pulled (full pair.l) pair.fine pair.coarse gf gc ps ns ds xs → {from to : ℕ} {eps : List Float} → ChainRoom (edges_on l L) (edges_on l (suc L)) from to eps
+    → (from ≡ eps_off l L) × (to ≡ eps_off l (suc L)) → WeightsReady l L (record { fine = gf; coarse = gc; feps = from; ceps = to }) ps ds ns xs eps
+pair_weights L limits p s room places = weights_ready L limits p.fine_is p.coarse_is (rw (p.base_is) at s) room places
 
 -- where a transfer's forward rows stand
 pub starts_from : (l : FullLattice) (L : ℕ) {o : Offsets} {cols : ℕ → List ℕ} {n : ℕ} {ss : List ℕ} → o ≡ offsets_at l L → StartsAt cols n (starts_off (edges_on l) L) ss → StartsAt cols n o.s ss

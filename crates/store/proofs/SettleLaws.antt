@@ -199,6 +199,10 @@ module _ (l : FullLattice) (ch : Choice) (coarsest : ℕ) (f : ℕ → C64) (b :
         ap (result_of (refused 7 level)) (z ∙ ap zeroed store_is ∙ filled_zeroed l ch (m_of l coarsest) f b)
         ∙ sym (goes.0 ∙ ap (λ (u : Verdict). unless u (zeroed b) (result_of (accepted (suc (m_of l coarsest))) (filled l ch (m_of l coarsest) f b))) q)
 
+-- of the store whose lists are so long
+pub sized : (l : FullLattice) (ch : Choice) (d : Verdict) {v : Verdict} {h k : Sizes} → v ≡ structure_by l ch d h → h ≡ k → v ≡ structure_by l ch d k
+sized l ch d found e = found ∙ ap (structure_by l ch d) e
+
 -- a refusal is none
 pub err_refused : (e : Refusal) → is_sound (answer_of (Err e)) ≡ false
 err_refused (OfInput c) = refused_unsound c

@@ -11,6 +11,7 @@ use lib.Dec.{eqb, ltb}
 use lib.ListN.{length, get_or}
 use lib.Ieee.{Float, nan}
 use borrow.Author.Tests.{eq-eqb, ne_eqb, le-ltb, ltb-true}
+use Rattle.std.proofs.lemmas.Bool.{cases_Bool}
 use Rattle.numbers.specs.Complex.{no_number}
 use Rattle.numbers.specs.Places.{number_at, set_number}
 use Rattle.numbers.specs.Lists.{rows, laid_numbers, starts_of, In}
@@ -37,7 +38,6 @@ use Rattle.store.specs.Landed.{Given, Laid}
 use Rattle.store.specs.Setup.{forward_starts_of, forward_cols_of, turned_starts_of, turned_cols_of, operator_starts_of, operator_cols_of, ends_part}
 use Rattle.store.specs.Work.{Structured}
 use Rattle.store.specs.Load.{load, given}
-use Rattle.store.proofs.TestLaws.{bool?}
 use Rattle.store.proofs.PlaceLaws.{puts_is}
 use Rattle.store.proofs.ListTheorem.{values_load}
 use Rattle.store.proofs.SpaceLaws.{lawful}
@@ -176,7 +176,7 @@ module _ (l : FullLattice) (ch : Choice) (m : ℕ) (b : Store) (enough : Enough 
 
   pub edge_there : (c : Change) → (changes l).bad c ≡ none → c.edge < edges_on l 0
   edge_there c e =
-      ⊎_elim (λ t. ltb-true c.edge (edges_on l 0) t) (λ t. let f : some NoEdge ≡ none = rw t at e in absurd (subst IsNone (sym f) tt)) (bool? (ltb c.edge (edges_on l 0)))
+      ⊎_elim (λ t. ltb-true c.edge (edges_on l 0) t) (λ t. let f : some NoEdge ≡ none = rw t at e in absurd (subst IsNone (sym f) tt)) (cases_Bool (ltb c.edge (edges_on l 0)))
 
   -- a change of the list is the change of the store that is loaded from it
   pub fits : (v : Values (edges_on l 0)) (c : Change) → (changes l).bad c ≡ none → load l ch m b (revise v c).list ≡ (changes l).edit (load l ch m b v.list) c

@@ -2,11 +2,11 @@
 -- Assumes nothing.
 use Prim.Native.Nat.{ℕ, suc, ◌*◌, ◌/◌, ◌≤◌, ◌<◌}
 use mathlib.Core.Path.{◌≡◌, refl, sym, ap, ◌∙◌}
-use mathlib.Core.Bool.{Bool, true, false, not, ◌&&◌}
+use mathlib.Core.Bool.{Bool, true, false, not}
 use mathlib.Core.List.{[], ◌∷◌}
 use native.Mathlib.Omega.{arith}
 use lib.Dec.{leb}
-use borrow.Author.Tests.{le-leb, lt-leb, leb-true}
+use borrow.Author.Tests.{le-leb, lt-leb}
 use Rattle.std.specs.Prelude.{unwrap_or}
 use Rattle.std.specs.List.{position}
 use Rattle.lattice.specs.Check.{and_then}
@@ -67,15 +67,6 @@ module _ (starts terms hs hc hv : ℕ) where
   pub room_starts : hs < starts → leb starts hs ≡ room_of starts terms hs hc hv
   room_starts p = rw (lt-leb starts hs p) refl
 
-  room_all : room_of starts terms hs hc hv ≡ true → (starts ≤ hs) × (terms ≤ hc) × (2 * terms ≤ hv)
-  room_all e = go (leb starts hs) (leb terms hc) (leb terms (hv / 2)) refl refl refl e
-    where
-      go : (a b c : Bool) → leb starts hs ≡ a → leb terms hc ≡ b → leb terms (hv / 2) ≡ c → (a && (b && c)) ≡ true → (starts ≤ hs) × (terms ≤ hc) × (2 * terms ≤ hv)
-      go true true true p q r e = (leb-true starts hs p, leb-true terms hc q, omega (arith, leb-true terms (hv / 2) r))
-      go true true false p q r e = absurd (let z : ◌≡◌ {A = ℕ} 0 1 = cc in omega arith)
-      go true false c p q r e = absurd (let z : ◌≡◌ {A = ℕ} 0 1 = cc in omega arith)
-      go false b c p q r e = absurd (let z : ◌≡◌ {A = ℕ} 0 1 = cc in omega arith)
-
 -- ---- the lists of a store
 
 module _ (l : FullLattice) (limits : Limits l.grid) (ch : Choice) (m : ℕ) (h : Lengths) where
@@ -94,33 +85,6 @@ module _ (l : FullLattice) (limits : Limits l.grid) (ch : Choice) (m : ℕ) (h :
       short_verdict a b c (turned_room (turned_off l m)) d f
       ∙ ap (λ (k : ℕ). numbered (first_short a b c (turned_room k) d f)) (turned_off_lem l limits m)
       ∙ ap numbered (sym (p ∙ ap (λ (n : Needs). short_in n h) e))
-
-  -- and where none is short, there is room
-  pub none_short_is : {n : Needs} {r : ℕ} → n ≡ needs_of l ch m → r ≡ short_in n h → r ≡ 6 → Enough l ch m (sizes_of h)
-  none_short_is e p z =
-      let n = needs_of l ch m in
-      let w =
-      none_short (leb n.ends h.ends) (leb n.eps (h.eps / 2)) (room_of n.starts n.terms h.starts h.columns h.values)
-      (room_of n.tstarts n.terms h.tstarts h.tcolumns h.tvalues) (room_of n.ostarts n.oterms h.ostarts h.ocolumns h.ovalues) (leb n.scaling (h.scaling / 2))
-      (sym (p ∙ ap (λ (n : Needs). short_in n h) e) ∙ z) in
-      let f = room_all n.starts n.terms h.starts h.columns h.values w.2 in
-      let t = room_all n.tstarts n.terms h.tstarts h.tcolumns h.tvalues w.3 in
-      let o = room_all n.ostarts n.oterms h.ostarts h.ocolumns h.ovalues w.4 in
-      let same = turned_off_lem l limits m in
-      record {
-        ends_room = leb-true n.ends h.ends w.0;
-        eps_room = omega (arith, leb-true n.eps (h.eps / 2) w.1);
-        forward_starts_are = f.0;
-        forward_columns_are = f.1;
-        forward_values_are = f.2;
-        turned_starts_are = t.0;
-        turned_columns_lem = omega (arith, t.1);
-        turned_values_are = omega (arith, t.2);
-        operator_starts_are = o.0;
-        operator_columns_are = o.1;
-        operator_values_are = o.2;
-        scaling_room = omega (arith, leb-true n.scaling (h.scaling / 2) w.5);
-      }
 
 -- ---- a store that has room has it for each phase
 

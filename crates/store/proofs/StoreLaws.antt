@@ -7,6 +7,7 @@ use mathlib.Core.Option.{Option, none, some}
 use native.Mathlib.Omega.{arith}
 use lib.Dec.{ltb}
 use borrow.Author.Tests.{le-ltb, ltb-true}
+use Rattle.std.proofs.lemmas.Bool.{cases_Bool}
 use Rattle.numbers.specs.declared.C64.{C64}
 use Rattle.numbers.specs.Lists.{tabulate, In}
 use Rattle.numbers.proofs.MemberLaws.{in_append}
@@ -27,7 +28,6 @@ use Rattle.store.specs.declared.Choice.{Choice}
 use Rattle.store.specs.declared.Choice.TheVariants.{Galerkin, Rediscretized}
 use Rattle.store.specs.Rows.{Row, coarse, averaged, forward, turned, volume, share, operator, kind_of, from, count, reading, writes, reads, calc, level, only, group, groups, full, rules}
 use Rattle.store.specs.Changes.{Change, Why, NoEdge, changes}
-use Rattle.store.proofs.TestLaws.{bool?}
 use Rattle.store.proofs.PlanLaws.{in_stands}
 use Rattle.store.proofs.Ranking.{Ordered, ordered_append, ordered_tabulate, Ranked, ranked_rising, ranked_climbing}
 use Rattle.store.proofs.ListTheorem.{said_laws, store_is_book, any_order}
@@ -292,7 +292,7 @@ module _ (l : FullLattice) (ch : Choice) (m : ℕ) (w : Ranges l) (h : Sizes) (e
       ⊎_elim
       (λ t. let b = ltb-true c.edge (edges_on l 0) t in (base_free c.edge b p i, base_has c.edge b p i))
       (λ t. let e2 : some NoEdge ≡ none = rw t at e in absurd (subst IsNone (sym e2) tt))
-      (bool? (ltb c.edge (edges_on l 0)))
+      (cases_Bool (ltb c.edge (edges_on l 0)))
 
   pub change_laws : EditLaws space (rules l ch m) Why (changes l) h
   change_laws = said_laws (rules l ch m) lawful Why Change (λ c. cells (spot permittivity c.edge)) (λ c. laid_from (c.value ∷ []) c.edge) (changes l).bad h allowed

@@ -7,13 +7,13 @@ use native.Mathlib.Omega.{arith}
 use lib.Dec.{leb, ltb}
 use lib.ListN.{length, get_or}
 use borrow.Author.Tests.{le-ltb, lt-leb, leb-false, ltb-false}
+use Rattle.std.proofs.lemmas.Bool.{and_from, and_parts}
 use Rattle.numbers.specs.declared.terms.Part.{Part}
 use Rattle.numbers.specs.Lists.{rows, starts_of}
 use Rattle.lattice.specs.Check.{accepted, is_sound}
 use Rattle.lattice.specs.Grid.{Limits}
 use Rattle.lattice.specs.Lattice.{FullLattice}
 use Rattle.operators.specs.LevelLists.{edges_on}
-use Rattle.operators.proofs.RelationLaws.{and_both as and_told}
 use Rattle.store.specs.Plan.{Free, run}
 use Rattle.store.specs.Store.{Store}
 use Rattle.store.specs.Places.{Place, get, ends_at, forward_starts_at, forward_columns_at, turned_starts_at, turned_columns_at, operator_starts_at, operator_columns_at}
@@ -24,7 +24,6 @@ use Rattle.store.specs.Setup.{ends_part, forward_starts_of, forward_cols_of, tur
 use Rattle.store.specs.Phases.{forward_part, turned_part, operator_part}
 use Rattle.store.specs.Work.{RowsAt, Structured}
 use Rattle.store.specs.Calls.{matches, ends_match, transfer_matches, level_matches}
-use Rattle.store.proofs.TestLaws.{and_both}
 use Rattle.store.proofs.MatchLaws.{matches_all, matches_told}
 use Rattle.store.proofs.PlanLaws.{in_stands, run_keeps}
 use Rattle.store.proofs.RangeLaws.{ranges}
@@ -58,17 +57,17 @@ module _ (l : FullLattice) (ch : Choice) (m : ℕ) (s : Store) (w : Structured l
   level_matches_lem : (L : ℕ) → L ≤ m → level_matches l ch m s L ≡ true
   unfolding level_matches
   level_matches_lem L h =
-      and_both _ _
-      (and_both _ _ (line_matches (3 * L) (omega arith)) (and_both _ _ (line_matches (3 * L + 1) (omega arith)) (line_matches (3 * L + 2) (omega arith))))
-      (and_both _ _
+      and_from _ _
+      (and_from _ _ (line_matches (3 * L) (omega arith)) (and_from _ _ (line_matches (3 * L + 1) (omega arith)) (line_matches (3 * L + 2) (omega arith))))
+      (and_from _ _
       (or_if (leb m L) _ (λ f. let b : L < m = leb_low f in
       let u = w.forward_are L b in
       let v = w.turned_are L b in
-      and_both _ _ (matches_starts (forward_cols l L) (edges_on l L) (forward_part l L) s.forward_starts s.forward_columns u)
-      (and_both _ _ (matches_cols (forward_cols l L) (edges_on l L) (forward_part l L) s.forward_starts s.forward_columns u)
-      (and_both _ _ (matches_starts (turned_cols l L) (edges_on l (suc L)) (turned_part l L) s.turned_starts s.turned_columns v)
+      and_from _ _ (matches_starts (forward_cols l L) (edges_on l L) (forward_part l L) s.forward_starts s.forward_columns u)
+      (and_from _ _ (matches_cols (forward_cols l L) (edges_on l L) (forward_part l L) s.forward_starts s.forward_columns u)
+      (and_from _ _ (matches_starts (turned_cols l L) (edges_on l (suc L)) (turned_part l L) s.turned_starts s.turned_columns v)
       (matches_cols (turned_cols l L) (edges_on l (suc L)) (turned_part l L) s.turned_starts s.turned_columns v)))))
-      (and_both _ _
+      (and_from _ _
       (matches_if (ltb L (first_stored m)) s.operator_starts (stored_starts l m L) (starts_of (operator_cols l ch L) (edges_on l L))
       (λ f. matches_starts (operator_cols l ch L) (edges_on l L) (operator_part l ch m L) s.operator_starts s.operator_columns (w.operator_are L (ltb-false L (first_stored m) f) h)))
       (matches_if (ltb L (first_stored m)) s.operator_columns (operator_off l ch m L) (rows (operator_cols l ch L) (edges_on l L))
@@ -106,28 +105,28 @@ module _ (l : FullLattice) (ch : Choice) (m : ℕ) (s : Store) where
         ends_are = λ q j b i. line q (q / 3) (q % 3) (omega arith) (omega arith) (omega arith) j i;
         forward_are = λ L b.
             let t = transfer L b in
-            let u = and_told _ _ t in
-            rows_told (forward_cols l L) (edges_on l L) (forward_part l L) s.forward_starts s.forward_columns u.0 (and_told _ _ u.1).0;
+            let u = and_parts _ _ t in
+            rows_told (forward_cols l L) (edges_on l L) (forward_part l L) s.forward_starts s.forward_columns u.0 (and_parts _ _ u.1).0;
         turned_are = λ L b.
             let t = transfer L b in
             let a1 = matches s.forward_starts (starts_off (edges_on l) L) (forward_starts_of l L) in
             let a2 = matches s.forward_columns (forward_off l L) (forward_cols_of l L) in
             let a3 = matches s.turned_starts (starts_off (next_edges l) L) (turned_starts_of l L) in
             let a4 = matches s.turned_columns (turned_off l L) (turned_cols_of l L) in
-            let u = and_told a3 a4 (and_told a2 (a3 && a4) (and_told a1 (a2 && (a3 && a4)) t).1).1 in
+            let u = and_parts a3 a4 (and_parts a2 (a3 && a4) (and_parts a1 (a2 && (a3 && a4)) t).1).1 in
             rows_told (turned_cols l L) (edges_on l (suc L)) (turned_part l L) s.turned_starts s.turned_columns u.0 u.1;
         operator_are = λ L k b.
             let e : ltb L (first_stored m) ≡ false = le-ltb L (first_stored m) k in
             let t = level L (omega arith) in
-            let u = and_told (leb m L || transfer_matches l s L) (operator_match L) t.1 in
-            let v = and_told _ _ u.1 in
+            let u = and_parts (leb m L || transfer_matches l s L) (operator_match L) t.1 in
+            let v = and_parts _ _ u.1 in
             rows_told (operator_cols l ch L) (edges_on l L) (operator_part l ch m L) s.operator_starts s.operator_columns
             (there e s.operator_starts (stored_starts l m L) (starts_of (operator_cols l ch L) (edges_on l L)) v.0)
             (there e s.operator_columns (operator_off l ch m L) (rows (operator_cols l ch L) (edges_on l L)) v.1);
       }
     where
       level : (L : ℕ) → L < suc m → (lines_match L ≡ true) × (((leb m L || transfer_matches l s L) && operator_match L) ≡ true)
-      level L b = unfold level_matches in and_told (lines_match L) _ (pass_all 11 (level_matches l ch m s) (suc m) h L b)
+      level L b = unfold level_matches in and_parts (lines_match L) _ (pass_all 11 (level_matches l ch m s) (suc m) h L b)
 
       there : {b : Bool} → b ≡ false → (cs : List ℕ) (k : ℕ) (vs : List ℕ) → matches cs k (cond b [] vs) ≡ true → matches cs k vs ≡ true
       there e cs k vs x = rw e at x
@@ -135,14 +134,14 @@ module _ (l : FullLattice) (ch : Choice) (m : ℕ) (s : Store) where
       transfer : (L : ℕ) → L < m → transfer_matches l s L ≡ true
       transfer L b =
           let t = level L (omega arith) in
-          let u = and_told (leb m L || transfer_matches l s L) (operator_match L) t.1 in
+          let u = and_parts (leb m L || transfer_matches l s L) (operator_match L) t.1 in
           either_told (leb m L) (transfer_matches l s L) u.0 (lt-leb m L b)
 
       line : (q L a : ℕ) → q ≡ 3 * L + a → a < 3 → L < suc m → (j : ℕ) → j < length (ends_part l q) → get_or s.ends (ends_off l q + j) 0 ≡ get_or (ends_part l q) j 0
       line q L a e c b j i =
           let t = level L b in
-          let u = and_told _ _ t.0 in
-          let v = and_told _ _ u.1 in
+          let u = and_parts _ _ t.0 in
+          let v = and_parts _ _ u.1 in
           go a c e u.0 v.0 v.1
         where
           go : (a : ℕ) → a < 3 → q ≡ 3 * L + a → matches s.ends (ends_off l (3 * L)) (ends_part l (3 * L)) ≡ true → matches s.ends (ends_off l (3 * L + 1)) (ends_part l (3 * L + 1)) ≡ true

@@ -21,10 +21,11 @@ use Rattle.numbers.proofs.SumLaws.{sum_to_zero, sum_to_suc}
 use Rattle.numbers.proofs.TabulateLaws.{length_tabulate, tabulate_at_0}
 use Rattle.numbers.proofs.TransposedLaws.{starts_same, columns_same}
 use Rattle.numbers.proofs.PartLaws.{laid_part, part_room}
-use Rattle.lattice.specs.declared.line.Line.{Line}
-use Rattle.lattice.specs.declared.levels.Three.{Three}
+use Rattle.lattice.specs.Levels.{three_at}
 use Rattle.lattice.specs.Grid.{Limits}
 use Rattle.lattice.specs.Lattice.{FullLattice}
+use Rattle.weights.specs.declared.pair.Pair.{Pair}
+use Rattle.weights.specs.Pair.{two}
 use Rattle.weights.specs.TwoLevels.{two_at, two_of}
 use Rattle.weights.specs.Whole.{weights_in, WholeRoom, WholeLeft, whole_finite}
 use Rattle.weights.specs.Prolongation.{weight_columns}
@@ -35,11 +36,12 @@ use Rattle.operators.proofs.VolumeLaws.{Placing, placing_start, placing_turn, pl
 use Rattle.operators.proofs.SeamLaws.{TransferLaid, transfer_laid, transfer_finite}
 use Rattle.store.specs.Layout.{forward_cols, turned_cols, next_edges, forward_count, turned_count, eps_off, forward_off, turned_off, starts_off}
 use Rattle.store.specs.Setup.{eps_part, forward_starts_of, forward_cols_of, forward_numbers, turned_starts_of, turned_cols_of, turned_numbers}
-use Rattle.store.specs.Phases.{HasLines, three_in, forward_part, turned_part, TransferRoom, TransfersLeft, weights_fine, noted, first_of}
+use Rattle.store.specs.Hierarchy.{LevelPair}
+use Rattle.store.specs.Phases.{forward_part, turned_part, TransferRoom, TransfersLeft, weights_fine, noted, first_of}
 use Rattle.store.specs.FillSteps.{offsets_at, behind_of, EpsIn, TransferLeft, TransferDone}
 use Rattle.store.specs.declared.transfers.Offsets.{Offsets}
 use Rattle.operators.proofs.Equations.{eps_at_zero}
-use Rattle.store.proofs.LineLaws.{both_lines, lines_two}
+use Rattle.store.proofs.LineLaws.{level_pair, level_two}
 use Rattle.store.proofs.SizeLaws.{fstarts_long, fcols_long, tstarts_long, tcols_long, eps_long, fnumbers_long, tnumbers_long, edges_few, forward_few, eps_low, starts_low, tstarts_low, forward_low, turned_low}
 use Rattle.store.proofs.ColumnLaws.{forward_cols_at, turned_cols_at, turned_many}
 
@@ -69,10 +71,10 @@ forward_from o = record { s = o.s; k = o.k }
 abbrev pub turned_from : Offsets → Part
 turned_from o = record { s = o.ts; k = o.tk }
 
-module _ (l : FullLattice) (limits : Limits l.grid) (m : ℕ) {lines : List Line} (has : HasLines l m lines) {L : ℕ} (h : (L < m) × (m ≤ 11)) {o : Offsets} (e : o ≡ offsets_at l L)
-    {fine coarse : Three} (p : fine ≡ three_in lines L) (q : coarse ≡ three_in lines (L + 1)) {eps : List Float} {ss cs : List ℕ} {xs : List Float} {ts us : List ℕ} {ys : List Float} where
+module _ (l : FullLattice) (limits : Limits l.grid) (m : ℕ) {L : ℕ} (h : (L < m) × (m ≤ 11)) {o : Offsets} (e : o ≡ offsets_at l L) {pair : Pair} (p : LevelPair l L pair)
+    {eps : List Float} {ss cs : List ℕ} {xs : List Float} {ts us : List ℕ} {ys : List Float} where
   -- the room that it asks for
-  pub whole_room : TransferRoom l m eps ss cs xs ts us ys → WholeRoom (two_of l fine coarse) o.feps o.ceps (forward_from o) (turned_from o) eps ss cs xs ts us ys
+  pub whole_room : TransferRoom l m eps ss cs xs ts us ys → WholeRoom (two pair) o.feps o.ceps (forward_from o) (turned_from o) eps ss cs xs ts us ys
   unfolding forward_cols
   whole_room r =
       let low = h.0 in
@@ -97,19 +99,18 @@ module _ (l : FullLattice) (limits : Limits l.grid) (m : ℕ) {lines : List Line
         ts_low = omega (arith, tstarts_low l limits L);
         tk_low = omega (arith, turned_low l limits L);
       } in
-      rw (lines_two l limits m has low p q, e) room
+      rw (level_two p limits, e) room
 
   module _ {eps' : List Float} {ss' cs' : List ℕ} {xs' : List Float} {ts' us' : List ℕ} {ys' : List Float} {b : Bool} where
     -- what it leaves
-    pub transfer_done : (WholeLeft (two_of l fine coarse) o.feps o.ceps (forward_from o) (turned_from o) eps ss cs xs ts us ys eps' ss' cs' xs' ts' us' ys')
-        × (b ≡ whole_finite (two_of l fine coarse) (read_from eps o.feps)) → TransferDone l L b eps ss cs xs ts us ys eps' ss' cs' xs' ts' us' ys'
+    pub transfer_done : (WholeLeft (two pair) o.feps o.ceps (forward_from o) (turned_from o) eps ss cs xs ts us ys eps' ss' cs' xs' ts' us' ys')
+        × (b ≡ whole_finite (two pair) (read_from eps o.feps)) → TransferDone l L b eps ss cs xs ts us ys eps' ss' cs' xs' ts' us' ys'
     unfolding weights_fine
     transfer_done w =
-        let a = both_lines l limits m has h.0 p q in
-        let left : WholeLeft (two_of l fine coarse) (eps_off l L) (eps_off l (suc L)) (forward_part l L) (turned_part l L) eps ss cs xs ts us ys eps' ss' cs' xs' ts' us' ys' = rw e at w.0 in
+        let left : WholeLeft (two_of l (three_at l L) (three_at l (suc L))) (eps_off l L) (eps_off l (suc L)) (forward_part l L) (turned_part l L) eps ss cs xs ts us ys eps' ss' cs' xs' ts' us' ys' = rw (level_pair p, e) at w.0 in
         record {
-          lists = λ f i. transfer_left l f L (transfer_laid l limits L a f left i.each_is);
-          ok_is = λ f i. transfer_finite l limits L a f eps (eps_off l L) i.each_is (rw e at w.1);
+          lists = λ f i. transfer_left l f L (transfer_laid l limits L (refl, refl) f left i.each_is);
+          ok_is = λ f i. transfer_finite l limits L (refl, refl) f eps (eps_off l L) i.each_is (rw (level_pair p, e) at w.1);
         }
 
 -- ---- where the next parts begin
@@ -197,18 +198,6 @@ module _ (l : FullLattice) (f : ℕ → C64) where
           tcolumns_are = laid_part set us₀ (turned_cols_of l) (turned_count l) (tcols_long l) L u.tcolumns_are w.tcolumns_are;
           tvalues_are = laid_part set_number ys₀ (turned_numbers l f) (turned_count l) (tnumbers_long l f) L u.tvalues_are w.tvalues_are;
         }
-
-    -- how long the lists are
-    pub transfers_long : (length eps ≡ length eps₀) × (length ss ≡ length ss₀) × (length cs ≡ length cs₀) × (length xs ≡ length xs₀) × (length ts ≡ length ts₀) × (length us ≡ length us₀) × (length ys ≡ length ys₀)
-    transfers_long = (
-      ap length u.eps_are ∙ laid_numbers_length eps₀ 0 (rows (eps_part l f) (suc L)),
-      ap length u.starts_are ∙ laid_length ss₀ 0 (rows (forward_starts_of l) L),
-      ap length u.columns_are ∙ laid_length cs₀ 0 (rows (forward_cols_of l) L),
-      ap length u.values_are ∙ laid_numbers_length xs₀ 0 (rows (forward_numbers l f) L),
-      ap length u.tstarts_are ∙ laid_length ts₀ 0 (rows (turned_starts_of l) L),
-      ap length u.tcolumns_are ∙ laid_length us₀ 0 (rows (turned_cols_of l) L),
-      ap length u.tvalues_are ∙ laid_numbers_length ys₀ 0 (rows (turned_numbers l f) L),
-    )
 
 -- ---- the loop over the levels
 

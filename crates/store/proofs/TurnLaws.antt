@@ -11,6 +11,7 @@ use lib.Dec.{eqb}
 use lib.ListN.{length, get_or, set, length-append, length-set}
 use lib.Seq.{get_or-set_same, get_or-set_other}
 use borrow.Author.Tests.{eq-eqb, eqb-true, eqb-false}
+use Rattle.std.proofs.lemmas.Bool.{and_from, cases_Bool, false_from_ne_true, and_parts}
 use Rattle.numbers.specs.declared.terms.Part.{Part}
 use Rattle.numbers.specs.Lists.{In, rows, start_of, starts_of, places_in, entry_at}
 use Rattle.numbers.specs.Transpose.{named_from, named_part, turned_columns}
@@ -21,11 +22,9 @@ use Rattle.numbers.proofs.TurnedLaws.{turned_columns_is, named_nil, named_one, n
 use Rattle.numbers.proofs.CollectSums.{in_at}
 use Rattle.numbers.proofs.LoopLaws.{start_zero, start_suc}
 use Rattle.numbers.proofs.StoredLaws.{start_room}
-use Rattle.operators.proofs.RelationLaws.{and_both as and_told}
 use Rattle.store.specs.Calls.{matches}
 use Rattle.store.specs.Compare.{rows_match, PartRoom, TurnFits, TurnedBy, term_in, named_in, named_by, Walkable, BeginsTo, Begins}
-use Rattle.store.proofs.TestLaws.{bool?, and_both}
-use Rattle.store.proofs.MatchLaws.{never_true, matches_append, matches_told, matches_places, start_told, row_told, Going, going_start, going_turn, going_end}
+use Rattle.store.proofs.MatchLaws.{matches_append, matches_told, matches_places, start_told, row_told, Going, going_start, going_turn, going_end}
 
 -- ---- what fits, one behind another
 
@@ -34,7 +33,7 @@ module _ (vs ws : List ℕ) {next us : List ℕ} {tk count c : ℕ} where
   fits_first u =
       record {
         low = λ i h. u.low i (omega (arith, length-append vs ws));
-        there = (and_told (matches us (tk + get_or next c 0) vs) (matches us (tk + get_or next c 0 + length vs) ws) (sym (matches_append us (tk + get_or next c 0) vs ws) ∙ u.there)).0;
+        there = (and_parts (matches us (tk + get_or next c 0) vs) (matches us (tk + get_or next c 0 + length vs) ws) (sym (matches_append us (tk + get_or next c 0) vs ws) ∙ u.there)).0;
       }
 
   fits_second : {next' : List ℕ} → get_or next' c 0 ≡ get_or next c 0 + length vs → TurnFits (vs ++ ws) next us tk count c → TurnFits ws next' us tk count c
@@ -42,7 +41,7 @@ module _ (vs ws : List ℕ) {next us : List ℕ} {tk count c : ℕ} where
       let z : tk + get_or next' c 0 ≡ tk + get_or next c 0 + length vs = omega arith in
       record {
         low = λ i h. omega (arith, u.low (length vs + i) (omega (arith, length-append vs ws)));
-        there = rw z (and_told (matches us (tk + get_or next c 0) vs) (matches us (tk + get_or next c 0 + length vs) ws) (sym (matches_append us (tk + get_or next c 0) vs ws) ∙ u.there)).1;
+        there = rw z (and_parts (matches us (tk + get_or next c 0) vs) (matches us (tk + get_or next c 0 + length vs) ws) (sym (matches_append us (tk + get_or next c 0) vs ws) ∙ u.there)).1;
       }
 
   fits_both : {next' : List ℕ} → get_or next' c 0 ≡ get_or next c 0 + length vs → TurnFits vs next us tk count c → TurnFits ws next' us tk count c → TurnFits (vs ++ ws) next us tk count c
@@ -50,7 +49,7 @@ module _ (vs ws : List ℕ) {next us : List ℕ} {tk count c : ℕ} where
       let z : tk + get_or next' c 0 ≡ tk + get_or next c 0 + length vs = omega arith in
       record {
         low = λ i h. go i (dec_lt i (length vs)) h;
-        there = matches_append us (tk + get_or next c 0) vs ws ∙ and_both _ _ u.there (rw z at w.there);
+        there = matches_append us (tk + get_or next c 0) vs ws ∙ and_from _ _ u.there (rw z at w.there);
       }
     where
       go : (i : ℕ) → Dec (i < length vs) → i < length (vs ++ ws) → get_or next c 0 + i < count
@@ -108,8 +107,8 @@ module _ {m : ℕ} {next us : List ℕ} {tk count d r : ℕ} (h : d < m) (wide :
   term_there low e =
       record {
         long = length-set next d (get_or next d 0 + 1);
-        fits = λ _ c b. fit c (bool? (eqb d c));
-        behind = λ _ c b. behind c (bool? (eqb d c));
+        fits = λ _ c b. fit c (cases_Bool (eqb d c));
+        behind = λ _ c b. behind c (cases_Bool (eqb d c));
         fails = λ f u. false≢true (sym f);
       }
     where
@@ -118,7 +117,7 @@ module _ {m : ℕ} {next us : List ℕ} {tk count d r : ℕ} (h : d < m) (wide :
           let y : d ≡ c = eqb-true d c z in
           rw z (record {
             low = λ i b. let x : i ≡ 0 = omega arith in omega (arith, ap (λ (j : ℕ). get_or next j 0) y);
-            there = and_both _ _ (eq-eqb (get_or us (tk + get_or next c 0) 0) r (rw (← y) e)) refl;
+            there = and_from _ _ (eq-eqb (get_or us (tk + get_or next c 0) 0) r (rw (← y) e)) refl;
           })
       fit c (inr z) = rw z (record { low = λ i b. absurd (omega arith); there = refl })
 
@@ -137,7 +136,7 @@ module _ {m : ℕ} {next us : List ℕ} {tk count d r : ℕ} (h : d < m) (wide :
         fails = λ _ u.
             let z = eq-eqb d d refl in
             let w : TurnFits (r ∷ []) next us tk count d = rw z at (u d h) in
-            bad (omega (arith, w.low 0 (omega arith))) (eqb-true (get_or us (tk + get_or next d 0) 0) r (and_told _ _ w.there).0);
+            bad (omega (arith, w.low 0 (omega arith))) (eqb-true (get_or us (tk + get_or next d 0) 0) r (and_parts _ _ w.there).0);
       }
 
 -- ---- the terms of a row
@@ -207,7 +206,7 @@ module _ {cols : ℕ → List ℕ} {m : ℕ} (t : Part) (tss : List ℕ) {us nex
   -- rows that stand there fit
   fits_told : rows_match cols m t tss us ≡ true → (c : ℕ) → c < m → TurnFits (cols c) next us t.k count c
   fits_told e c h =
-      let w = and_told (matches tss t.s (starts_of cols m)) (matches us t.k (rows cols m)) e in
+      let w = and_parts (matches tss t.s (starts_of cols m)) (matches us t.k (rows cols m)) e in
       let b : get_or next c 0 ≡ start_of cols c = at c h ∙ start_told cols m t.s tss w.0 c (omega arith) in
       record {
         low = λ i l. omega (arith, start_room cols m c h);
@@ -215,7 +214,7 @@ module _ {cols : ℕ → List ℕ} {m : ℕ} (t : Part) (tss : List ℕ) {us nex
       }
 
   pub walk_bad : {d : Bool} → a ≡ false → d ≡ false → d ≡ rows_match cols m t tss us
-  walk_bad f e = e ∙ sym (never_true (rows_match cols m t tss us) (λ x. u.fails f (fits_told x)))
+  walk_bad f e = e ∙ sym (false_from_ne_true (rows_match cols m t tss us) (λ x. u.fails f (fits_told x)))
 
   module _ (good : a ≡ true) where
     next_told : (c : ℕ) → c < m → get_or next' c 0 ≡ get_or tss (t.s + c) 0 + length (cols c)
@@ -223,7 +222,7 @@ module _ {cols : ℕ → List ℕ} {m : ℕ} (t : Part) (tss : List ℕ) {us nex
 
     begins_told : rows_match cols m t tss us ≡ true → BeginsTo next' tss t.s m
     begins_told x =
-        let w = and_told (matches tss t.s (starts_of cols m)) (matches us t.k (rows cols m)) x in
+        let w = and_parts (matches tss t.s (starts_of cols m)) (matches us t.k (rows cols m)) x in
         let y : t.s + 0 ≡ t.s = omega arith in
         record {
           first = (rw y at (start_told cols m t.s tss w.0 0 (omega arith))) ∙ start_zero cols;
@@ -246,23 +245,23 @@ module _ {cols : ℕ → List ℕ} {m : ℕ} (t : Part) (tss : List ℕ) {us nex
           let z : r + 1 ≡ suc r = omega arith in
           let b : get_or next r 0 ≡ start_of cols r = at r h ∙ start_is r (omega arith) in
           rw (start_suc cols r, ← z)
-          (going_turn (going r (omega arith)) h refl (and_both _ _ (eq-eqb (get_or tss (t.s + r) 0) (start_of cols r) (start_is r (omega arith))) (rw b at (u.fits good r h).there)))
+          (going_turn (going r (omega arith)) h refl (and_from _ _ (eq-eqb (get_or tss (t.s + r) 0) (start_of cols r) (start_is r (omega arith))) (rw b at (u.fits good r h).there)))
 
       walk_good : {d : Bool} → d ≡ true → d ≡ rows_match cols m t tss us
       walk_good e = going_end (going m (omega arith)) (omega arith) (e ∙ sym (eq-eqb (get_or tss (t.s + m) 0) (start_of cols m) (start_is m (omega arith))))
 
     pub walk_end : {d : Bool} → Begins next' tss t.s m d → d ≡ rows_match cols m t tss us
-    walk_end {d} v = go (bool? d)
+    walk_end {d} v = go (cases_Bool d)
       where
         go : (d ≡ true) ⊎ (d ≡ false) → d ≡ rows_match cols m t tss us
         go (inl e) = walk_good (v.good e) e
-        go (inr e) = e ∙ sym (never_true (rows_match cols m t tss us) (λ x. v.bad e (begins_told x)))
+        go (inr e) = e ∙ sym (false_from_ne_true (rows_match cols m t tss us) (λ x. v.bad e (begins_told x)))
 
 -- ---- forward rows that stand in lists
 
 module _ {cols : ℕ → List ℕ} {n : ℕ} {o : Part} {ss cs : List ℕ} (room : PartRoom cols n o ss cs) (e : rows_match cols n o ss cs ≡ true) where
   parts : (matches ss o.s (starts_of cols n) ≡ true) × (matches cs o.k (rows cols n) ≡ true)
-  parts = and_told (matches ss o.s (starts_of cols n)) (matches cs o.k (rows cols n)) e
+  parts = and_parts (matches ss o.s (starts_of cols n)) (matches cs o.k (rows cols n)) e
 
   here : (r : ℕ) → r ≤ n → get_or ss (o.s + r) 0 ≡ start_of cols r
   here r h = start_told cols n o.s ss parts.0 r h

@@ -6,7 +6,7 @@ use native.Mathlib.Omega.{arith}
 use native.Mathlib.Decide.{ℕ_discrete}
 use lib.Dec.{leb}
 use borrow.Author.Tests.{leb-true}
-use Rattle.numbers.proofs.Laws.{and_left, and_right}
+use Rattle.std.proofs.lemmas.Bool.{and_parts}
 use Rattle.lattice.specs.Check.{Verdict, accepted, refused, is_sound, and_then}
 use Rattle.lattice.specs.Lattice.{FullLattice}
 use Rattle.operators.specs.LevelLists.{edges_on}
@@ -52,10 +52,10 @@ pass_all k ok (suc n) h L b =
 
 three_told : (a n ss cs xs : ℕ) → room_of a n ss cs xs ≡ true → (a ≤ ss) × (n ≤ cs) × (2 * n ≤ xs)
 three_told a n ss cs xs e =
-    let y = and_right (leb a ss) (leb n cs && leb n (xs / 2)) e in (
-      leb-true a ss (and_left (leb a ss) (leb n cs && leb n (xs / 2)) e),
-      leb-true n cs (and_left (leb n cs) (leb n (xs / 2)) y),
-      omega (arith, leb-true n (xs / 2) (and_right (leb n cs) (leb n (xs / 2)) y)),
+    let y = (and_parts (leb a ss) (leb n cs && leb n (xs / 2)) e).1 in (
+      leb-true a ss ((and_parts (leb a ss) (leb n cs && leb n (xs / 2)) e).0),
+      leb-true n cs ((and_parts (leb n cs) (leb n (xs / 2)) y).0),
+      omega (arith, leb-true n (xs / 2) ((and_parts (leb n cs) (leb n (xs / 2)) y).1)),
     )
 
 pub enough_told : (l : FullLattice) (ch : Choice) (m : ℕ) (h : Sizes) → is_sound (short_of l ch m h) ≡ true → Enough l ch m h

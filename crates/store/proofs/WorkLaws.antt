@@ -2,7 +2,7 @@
 -- finite. All of it of ANY store whose starts and columns are the lattice's, also one whose numbers were altered. Assumes nothing.
 use Prim.Native.Nat.{ℕ, zero, suc, ◌+◌, ◌-◌, ◌*◌, ◌/◌, ◌%◌, ◌≤◌, ◌<◌}
 use mathlib.Core.Path.{◌≡◌, refl, sym, ap, ◌∙◌}
-use mathlib.Core.Bool.{Bool, ◌&&◌}
+use mathlib.Core.Bool.{Bool, ◌&&◌, and_assoc}
 use mathlib.Core.List.{List, ◌∷◌, []}
 use native.Mathlib.Omega.{arith}
 use native.Mathlib.Decide.{ℕ_discrete, dec_lt}
@@ -50,7 +50,6 @@ use Rattle.store.proofs.ColumnLaws.{forward_cols_at, turned_cols_at, operator_co
 use Rattle.operators.proofs.Equations.{galerkin_columns_is, galerkin_at_suc, rediscretized_at_is}
 use Rattle.numbers.proofs.Laws.{finite_both}
 use Rattle.numbers.proofs.TransposedLaws.{in_tabulate, tabulate_in}
-use Rattle.store.proofs.TestLaws.{and_assoc}
 
 -- ---- what a look finds in a list
 
@@ -301,7 +300,7 @@ part_fine l ch m k vs a (suc n) i =
     let z = get_or vs i no_number in
     let rest = all_finite (tabulate (λ q. get_or vs q no_number) n (suc i)) in
     rw (e, tabulate_suc (place k) (suc (2 * n)) (2 * (a + i)), o, tabulate_suc (place k) (2 * n) (2 * (a + i) + 1), g)
-    (rw (x, y, part_fine l ch m k vs a n (suc i)) (and_assoc (finite_double z.re) (finite_double z.im) rest ∙ ap (λ (b : Bool). b && rest) (sym (finite_both z))))
+    (rw (x, y, part_fine l ch m k vs a n (suc i)) (sym (and_assoc (finite_double z.re) (finite_double z.im) rest) ∙ ap (λ (b : Bool). b && rest) (sym (finite_both z))))
     ∙ sym (ap all_finite (tabulate_suc (λ q. get_or vs q no_number) n i) ∙ all_finite_cons z (tabulate (λ q. get_or vs q no_number) n (suc i)))
 
 -- a row passes just where the numbers of its rule are finite, as the layers below test them

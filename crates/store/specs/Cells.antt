@@ -9,6 +9,9 @@ use Rattle.store.specs.Places.{Place}
 use Rattle.store.specs.Renewed.{Five, five}
 use Rattle.store.specs.Spots.{Kind, permittivity, forwards, turneds, entries, scales, place}
 use Rattle.store.specs.declared.change.Cursor.{Cursor}
+use Rattle.store.specs.declared.change.NumberList.{NumberList}
+use Rattle.store.specs.declared.change.NumberList.TheVariants.{Permittivities, Forward, Turned, Operator, Scaling}
+use Rattle.store.specs.declared.change.Words.{Words}
 use Rattle.store.specs.declared.change.Saved.{Saved}
 
 -- ---- doubles
@@ -27,13 +30,13 @@ no_cell = cell permittivity 0
 abbrev pub place_of : Cell → Place
 place_of d = place d.kind d.index
 
--- the five lists by number
-unfoldable pub kind_no : ℕ → Kind
-kind_no zero = permittivity
-kind_no (suc zero) = forwards
-kind_no (suc (suc zero)) = turneds
-kind_no (suc (suc (suc zero))) = entries
-kind_no (suc (suc (suc (suc n)))) = scales
+-- the kind of the numbers of a list
+abbrev pub kind_in : NumberList → Kind
+kind_in Permittivities = permittivity
+kind_in Forward = forwards
+kind_in Turned = turneds
+kind_in Operator = entries
+kind_in Scaling = scales
 
 abbrev pub chosen : Five → Kind → List Float
 chosen v permittivity = v.e
@@ -54,32 +57,35 @@ set_double v scales j x = five v.e v.f v.t v.o (set v.c j x)
 
 -- ---- what a walk reads
 
--- the flags; five words for each part: how many rows, where their flags begin, the number of their list, where their starts begin, and their numbers; and
+-- the flags; for each part how many rows, where their flags begin, their list, where their starts begin, and their numbers; and
 -- the starts of the forward, the turned and the operator rows
 pub record Chart : Type 0 where
   pub flags : List ℕ
-  pub shape : List ℕ
+  pub shape : List Words
   pub fs : List ℕ
   pub ts : List ℕ
   pub os : List ℕ
 
-abbrev pub chart : List ℕ → List ℕ → List ℕ → List ℕ → List ℕ → Chart
+abbrev pub chart : List ℕ → List Words → List ℕ → List ℕ → List ℕ → Chart
 chart flags shape fs ts os = record { flags = flags; shape = shape; fs = fs; ts = ts; os = os }
 
+abbrev pub no_words : Words
+no_words = record { rows = 0; base = 0; list = Permittivities; start = 0; number = 0 }
+
 abbrev pub rows_of : Chart → ℕ → ℕ
-rows_of w p = get_or w.shape (5 * p) 0
+rows_of w p = (get_or w.shape p no_words).rows
 
 abbrev pub base_of : Chart → ℕ → ℕ
-base_of w p = get_or w.shape (5 * p + 1) 0
+base_of w p = (get_or w.shape p no_words).base
 
-abbrev pub list_no : Chart → ℕ → ℕ
-list_no w p = get_or w.shape (5 * p + 2) 0
+abbrev pub list_in : Chart → ℕ → NumberList
+list_in w p = (get_or w.shape p no_words).list
 
 abbrev pub start_no : Chart → ℕ → ℕ
-start_no w p = get_or w.shape (5 * p + 3) 0
+start_no w p = (get_or w.shape p no_words).start
 
 abbrev pub number_no : Chart → ℕ → ℕ
-number_no w p = get_or w.shape (5 * p + 4) 0
+number_no w p = (get_or w.shape p no_words).number
 
 -- a row of those with starts: its first number and how many there are
 abbrev pub from_in : List ℕ → ℕ → ℕ → ℕ → ℕ
@@ -109,20 +115,20 @@ span_of w p i =
     record {
       part = p;
       row = i;
-      list = list_no w p;
-      at = 2 * from_by w (kind_no (list_no w p)) p i;
-      left = 2 * count_by w (kind_no (list_no w p)) p i;
+      list = list_in w p;
+      at = 2 * from_by w (kind_in (list_in w p)) p i;
+      left = 2 * count_by w (kind_in (list_in w p)) p i;
     }
 
 -- nothing of a row that is not flagged
 abbrev pub flagged_span : Chart → ℕ → ℕ → Cursor
-flagged_span w p i = cond (flag_at w.flags (base_of w p + i)) (span_of w p i) (record { part = p; row = i; list = 0; at = 0; left = 0 })
+flagged_span w p i = cond (flag_at w.flags (base_of w p + i)) (span_of w p i) (record { part = p; row = i; list = Permittivities; at = 0; left = 0 })
 
 -- ---- what is left of a walk
 
 -- of the row that a cursor is in
 abbrev pub cells_on : Cursor → List Cell
-cells_on c = tabulate (cell (kind_no c.list)) c.left c.at
+cells_on c = tabulate (cell (kind_in c.list)) c.left c.at
 
 -- of n rows of part p from row i on
 unfoldable pub rows_from : Chart → ℕ → ℕ → ℕ → List Cell
@@ -155,16 +161,16 @@ SpanFits w scales p i = number_no w p + i ≤ 2 ^ 40
 -- every look of a walk is within the lists, and every sum small
 pub record ChartFits (w : Chart) (parts : ℕ) : Type 0 where
   pub few : parts ≤ 78
-  pub long : 5 * parts ≤ length w.shape
+  pub long : parts ≤ length w.shape
   pub rows_few : (p : ℕ) → p < parts → rows_of w p ≤ 2 ^ 32
   pub bases_few : (p : ℕ) → p < parts → base_of w p ≤ 2 ^ 32
   pub flags_there : (p : ℕ) → p < parts → base_of w p + rows_of w p ≤ 64 * length w.flags
-  pub spans : (p i : ℕ) → p < parts → i < rows_of w p → SpanFits w (kind_no (list_no w p)) p i
+  pub spans : (p i : ℕ) → p < parts → i < rows_of w p → SpanFits w (kind_in (list_in w p)) p i
 
 -- the doubles of every row are there
 pub record CellsFit (w : Chart) (parts : ℕ) (v : Five) : Type 0 where
   pub there : (p i : ℕ) → p < parts → i < rows_of w p
-      → 2 * (from_by w (kind_no (list_no w p)) p i + count_by w (kind_no (list_no w p)) p i) ≤ length (chosen v (kind_no (list_no w p)))
+      → 2 * (from_by w (kind_in (list_in w p)) p i + count_by w (kind_in (list_in w p)) p i) ≤ length (chosen v (kind_in (list_in w p)))
 
 -- a cursor of a walk: at a double, or at the end
 pub record CursorIn (w : Chart) (parts : ℕ) (c : Cursor) : Type 0 where
@@ -172,7 +178,7 @@ pub record CursorIn (w : Chart) (parts : ℕ) (c : Cursor) : Type 0 where
   pub part_in : (c.left ≡ 0 → ⊥) → c.part < parts
   pub row_in : (c.left ≡ 0 → ⊥) → c.row < rows_of w c.part
   pub low : c.at + c.left ≤ 2 ^ 42
-  pub there : (c.left ≡ 0 → ⊥) → (v : Five) → CellsFit w parts v → c.at + c.left ≤ length (chosen v (kind_no c.list))
+  pub there : (c.left ≡ 0 → ⊥) → (v : Five) → CellsFit w parts v → c.at + c.left ≤ length (chosen v (kind_in c.list))
 
 -- the first double from row i of part p on
 pub record Found (w : Chart) (parts p i : ℕ) (c : Cursor) : Type 0 where
@@ -182,7 +188,7 @@ pub record Found (w : Chart) (parts p i : ℕ) (c : Cursor) : Type 0 where
 -- the double behind that of a cursor
 pub record Stepped (w : Chart) (parts : ℕ) (c r : Cursor) : Type 0 where
   pub within : CursorIn w parts r
-  pub rest_is : rest_of w parts c ≡ cell (kind_no c.list) c.at ∷ rest_of w parts r
+  pub rest_is : rest_of w parts c ≡ cell (kind_in c.list) c.at ∷ rest_of w parts r
 
 -- ---- saved, and put back
 

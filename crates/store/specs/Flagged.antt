@@ -51,6 +51,10 @@ pub record PairAt (l : FullLattice) (L : ℕ) (fine coarse : Three) (nn : List �
 pub record Made (l : FullLattice) (ch : Choice) (m : ℕ) (r : Row) (g : Five → List Float → Five) (v : List Float) (b : Bool) (v' : List Float) : Type 0 where
   pub each : (x : Fixed) (w : Five) → RowRenewed l ch m x r (g w v) b (g w v')
 
+-- the same of either choice and of any count of levels
+pub record MadeAny (l : FullLattice) (r : Row) (g : Five → List Float → Five) (v : List Float) (b : Bool) (v' : List Float) : Type 0 where
+  pub made : (ch : Choice) (m : ℕ) → Made l ch m r g v b v'
+
 pub record RenewedIn (l : FullLattice) (ch : Choice) (m : ℕ) (rs : List Row) (g : Five → List Float → Five) (v : List Float) (n : ℕ) (v' : List Float) : Type 0 where
   pub each : (x : Fixed) (w : Five) → Renewed l ch m x rs (g w v) n (g w v')
 

@@ -1,11 +1,8 @@
 -- Rows worked out anew under a guard that has saved what stood there (docs/SPECIFICATION.md, 12).
 -- Assumes nothing.
-use Rattle.std.specs.Prelude.{ℕ, suc, ◌*◌, ◌≤◌, ◌≡◌, ◌⊎◌, List, map, length}
+use Rattle.std.specs.Prelude.{ℕ, ◌*◌, ◌≤◌, ◌≡◌, ◌⊎◌, List, map, length}
 use Rattle.numbers.specs.Lists.{In}
-use Rattle.lattice.specs.Check.{accepted}
-use Rattle.lattice.specs.Grid.{Limits}
 use Rattle.lattice.specs.Lattice.{FullLattice}
-use Rattle.lattice.specs.Levels.{depth_of}
 use Rattle.store.specs.Cells.{Cell, place_of}
 use Rattle.store.specs.Parts.{part_off, part_count}
 use Rattle.store.specs.Places.{Place}
@@ -24,11 +21,8 @@ pub record Left {X : Space} (R : Rules X) (rs : List R.Row) (s : X.S) (ps : List
   pub done : n ≡ 0 → t ≡ run R rs s
   pub back : (n ≡ 0 → ⊥) → puts X t ps (X.get s) ≡ s
 
--- what the work at the bottom of the guard needs
-pub record Ready (l : FullLattice) (ch : Choice) (m coarsest : ℕ) (flags : List ℕ) (x : Fixed) (v : Five) : Type 0 where
-  pub limits : Limits l.grid
-  pub few : m ≤ 11
-  pub deep : depth_of l coarsest ≡ accepted (suc m)
+-- what the work at the bottom of the guard needs, of a lattice whose levels are held
+pub record Ready (l : FullLattice) (ch : Choice) (m : ℕ) (flags : List ℕ) (x : Fixed) (v : Five) : Type 0 where
   pub shaped : Shaped l ch m x
   pub room : FiveRoom l ch m v
   pub flags_long : part_off l ch m (part_count m) ≤ 64 * length flags

@@ -34,3 +34,5 @@ pub mod Guard
 pub mod RenewLevels
 pub mod ReachSteps
 pub mod Cases
+pub mod Hierarchy
+pub mod Lists

@@ -2,8 +2,10 @@
 -- Assumes nothing.
 use Rattle.std.specs.Prelude.{ℕ, suc, ◌*◌, ◌≤◌, List, length, Float}
 use Rattle.lattice.specs.Lattice.{FullLattice}
-use Rattle.store.specs.Layout.{forward_off, turned_off, operator_off, averaged_off, scale_off, stored_starts, eps_need}
+use Rattle.store.specs.Layout.{forward_off, turned_off, averaged_off, scale_off, eps_need}
+use Rattle.store.specs.Phases.{operator_part}
 use Rattle.store.specs.PhaseSteps.{averaged_from}
+use Rattle.store.specs.FillSteps.{offsets_at}
 use Rattle.store.specs.Rows.{Row}
 use Rattle.store.specs.Parts.{part_off}
 use Rattle.store.specs.Renewed.{Fixed, fixed, five, Renewed}
@@ -11,16 +13,16 @@ use Rattle.store.specs.declared.Choice.{Choice}
 use Rattle.store.specs.declared.Choice.TheVariants.{Rediscretized}
 use Rattle.store.specs.declared.change.Standing.{Standing}
 
--- of the transfer from level L + 1 to L, besides its offsets
+-- of the transfer from level L + 1 to L
 abbrev pub standing_at : FullLattice → Choice → ℕ → ℕ → Standing
 standing_at l ch m L =
     record {
+      o = offsets_at l L;
       base = part_off l ch m (suc (7 * L));
       from = averaged_from l m L;
       to = averaged_off l m L;
       scale = scale_off l L;
-      s = stored_starts l m (suc L);
-      k = operator_off l ch m (suc L);
+      operator = operator_part l ch m (suc L);
     }
 
 -- room for the numbers of the weights

@@ -7,6 +7,7 @@ use Rattle.numbers.specs.Places.{number_at}
 use Rattle.numbers.specs.Lists.{tabulate, rows, laid, laid_numbers, all_finite, starts_of, some_repeats}
 use Rattle.numbers.specs.Terms.{numbers_of}
 use Rattle.lattice.specs.declared.lattice.Lattice.{Lattice}
+use Rattle.lattice.specs.declared.input.Stretches.{Stretches}
 use Rattle.lattice.specs.Check.{Verdict, accepted, refused, and_then, check_of}
 use Rattle.lattice.specs.Lattice.{FullLattice, lattice_of}
 use Rattle.lattice.specs.Levels.{depth_of, count_of, line_at}
@@ -34,6 +35,10 @@ pub record Input : Type 0 where
 
 abbrev pub input_of : Lattice → List Float → List Float → List Float → List Float → List Float → List Float → Choice → ℕ → Input
 input_of v xn xh yn yh zn zh ch coarsest = record { lattice = v; xn = xn; xh = xh; yn = yn; yh = yh; zn = zn; zh = zh; choice = ch; coarsest = coarsest }
+
+-- of the six lists as they go through the code
+abbrev pub input_on : Lattice → Stretches → Choice → ℕ → Input
+input_on v on = input_of v on.xn.now on.xh.now on.yn.now on.yh.now on.zn.now on.zh.now
 
 -- the lattice with its stretches
 abbrev pub full_of : Input → FullLattice

@@ -5,6 +5,7 @@ ghost use Rattle.store.specs.declared.setup.Refusal.TheVariants.{Input};
 ghost use Rattle.store.specs.declared.change.Refusal.TheVariants.{Setup};
 
 use crate::setup;
+use crate::transfers::Offsets;
 use lattice::check;
 use numbers::terms::Part;
 
@@ -56,22 +57,34 @@ pub struct LevelParts {
     pub operator: Part,
 }
 
-// Besides its offsets: its flags, the averaged permittivities of its fine and of its coarse level, its volumes; starts and terms of its coarse level's operator.
+// Where a transfer stands: its offsets, its flags, the averaged permittivities of its fine and of its coarse level, its volumes, and the rows of its
+// coarse level's operator.
 #[derive(Clone, Copy)]
 pub struct Standing {
+    pub o: Offsets,
     pub base: usize,
     pub from: usize,
     pub to: usize,
     pub scale: usize,
-    pub s: usize,
-    pub k: usize,
+    pub operator: Part,
 }
 
-// The words of a part but where its flags begin: how many rows, the number of their list, where their starts and where their numbers begin.
+// The five lists of numbers of a store.
+#[derive(Clone, Copy, PartialEq, Eq, Debug)]
+pub enum NumberList {
+    Permittivities,
+    Forward,
+    Turned,
+    Operator,
+    Scaling,
+}
+
+// Where the rows of a part stand: how many rows, where their flags begin, their list, where their starts and where their numbers begin.
 #[derive(Clone, Copy)]
 pub struct Words {
     pub rows: usize,
-    pub list: usize,
+    pub base: usize,
+    pub list: NumberList,
     pub start: usize,
     pub number: usize,
 }
@@ -87,13 +100,13 @@ pub struct Marks {
     pub operator: Part,
 }
 
-// A double of a row: the row's part and number, the list (0 permittivities, 1 forward, 2 turned, 3 operator, 4 scaling), the double's place there, and how
-// many of the row's doubles are left, this one among them. None is left at the end of the walk.
+// A double of a row: the row's part and number, the list, the double's place there, and how many of the row's doubles are left, this one among them. None
+// is left at the end of the walk.
 #[derive(Clone, Copy)]
 pub struct Cursor {
     pub part: usize,
     pub row: usize,
-    pub list: usize,
+    pub list: NumberList,
     pub at: usize,
     pub left: usize,
 }

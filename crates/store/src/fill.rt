@@ -1,20 +1,20 @@
 // The fill: every phase of a setup, in the twelve lent lists.
 
-ghost use Rattle.std.specs.Prelude.{◌≡◌, ℕ, suc, ◌+◌, ◌*◌, ◌<◌, ◌≤◌, length};
+ghost use Rattle.store.specs.Hierarchy.{the_lattice};
+ghost use Rattle.std.specs.Prelude.{◌≡◌, suc, ◌+◌, ◌*◌, ◌<◌, ◌≤◌, length};
 ghost use Rattle.numbers.specs.Places.{number_at};
-ghost use Rattle.lattice.specs.Grid.{Limits};
-ghost use Rattle.lattice.specs.Lattice.{full_lattice};
 ghost use Rattle.operators.specs.LevelLists.{edges_on};
-ghost use Rattle.store.specs.Store.{lent, sizes};
+ghost use Rattle.store.specs.Store.{sizes};
+ghost use Rattle.store.specs.Lists.{store_of, SameLists};
 ghost use Rattle.store.specs.Layout.{Enough};
-ghost use Rattle.store.specs.Phases.{HasLines, level_code, lower_of};
+ghost use Rattle.store.specs.Phases.{level_code, lower_of};
 ghost use Rattle.store.specs.FillSteps.{OperatorsReady};
 ghost use Rattle.store.specs.Ready.{ChosenRoom, ScalingAsked, ChosenDone, ScalingDone};
 ghost use Rattle.store.specs.Steps.{filling, fill_of, fill_code};
 
+use crate::hierarchy::Hierarchy;
+use crate::lists::{Lists, Transfers};
 use crate::{Choice, ends, galerkin_levels, lines, rediscretized_levels, scaling, sole, transfers};
-use lattice::lattice::Lattice;
-use lattice::line::Line;
 
 // The lower of two levels, where there are any.
 fn lower(a: Option<usize>, b: Option<usize>) -> Option<usize>
@@ -42,40 +42,26 @@ fn first_bad(m: usize, a: Option<usize>, b: Option<usize>, c: Option<usize>) -> 
 // number that is not finite; of a sole level 0 if it has one.
 fn operators(
     choice: Choice,
-    l: Lattice,
-    st: &[f64],
-    lines: [Line; 36],
-    m: usize,
+    h: &Hierarchy<'_>,
     eps: &mut [f64],
-    starts: &[usize],
-    columns: &[usize],
-    values: &[f64],
-    tstarts: &[usize],
-    tcolumns: &[usize],
-    tvalues: &[f64],
+    rows: &Transfers<'_>,
     ostarts: &mut [usize],
     ocolumns: &mut [usize],
     ovalues: &mut [f64],
 ) -> Option<usize>
-    requires limits { Limits l.grid }
-    requires m_bound { m ≤ 11 }
-    requires has_lines { HasLines (full_lattice l st.now) m lines }
-    requires operators_ready { OperatorsReady (full_lattice l st.now) m eps.old starts.now columns.now values.now tstarts.now tcolumns.now tvalues.now }
-    requires chosen_room { ChosenRoom (full_lattice l st.now) choice m eps.old ostarts.old ocolumns.old ovalues.old }
-    ensures { ChosenDone (full_lattice l st.now) choice m eps.old starts.now columns.now values.now
-        tstarts.now tcolumns.now tvalues.now ostarts.old ocolumns.old ovalues.old
+    requires operators_ready { OperatorsReady (the_lattice h.now) h.now.m eps.old rows.now.starts.now rows.now.columns.now rows.now.values.now rows.now.tstarts.now rows.now.tcolumns.now rows.now.tvalues.now }
+    requires chosen_room { ChosenRoom (the_lattice h.now) choice h.now.m eps.old ostarts.old ocolumns.old ovalues.old }
+    ensures { ChosenDone (the_lattice h.now) choice h.now.m eps.old rows.now.starts.now rows.now.columns.now rows.now.values.now
+        rows.now.tstarts.now rows.now.tcolumns.now rows.now.tvalues.now ostarts.old ocolumns.old ovalues.old
         eps.new ostarts.new ocolumns.new ovalues.new (level_code result) }
 {
-    if m == 0 {
-        return lines::noted(None, 0, sole::sole(l, st, eps, ostarts, ocolumns, ovalues));
+    if h.m == 0 {
+        return lines::noted(None, 0, sole::sole(&h.l, eps, ostarts, ocolumns, ovalues));
     }
     match choice {
-        Choice::Galerkin => galerkin_levels::operators(
-            l, st, lines, m, eps, starts, columns, values, tstarts, tcolumns, tvalues, ostarts,
-            ocolumns, ovalues,
-        ),
+        Choice::Galerkin => galerkin_levels::operators(h, eps, rows, ostarts, ocolumns, ovalues),
         Choice::Rediscretized => rediscretized_levels::operators(
-            l, st, lines, m, eps, ostarts, ocolumns, ovalues,
+            h, eps, ostarts, ocolumns, ovalues,
         ),
     }
 }
@@ -83,26 +69,22 @@ fn operators(
 // The volumes and inverse shares of m transfers, if rediscretized. The first transfer that has one that is not finite.
 fn scalings(
     choice: Choice,
-    l: Lattice,
-    st: &[f64],
-    lines: [Line; 36],
-    m: usize,
-    tstarts: &[usize],
-    tcolumns: &[usize],
-    tvalues: &[f64],
+    h: &Hierarchy<'_>,
+    rows: &Transfers<'_>,
     scaling: &mut [f64],
 ) -> Option<usize>
-    requires limits { Limits l.grid }
-    requires m_bound { m ≤ 11 }
-    requires has_lines { HasLines (full_lattice l st.now) m lines }
-    requires scaling_asked { ScalingAsked (full_lattice l st.now) choice m tstarts.now tcolumns.now tvalues.now scaling.old }
-    ensures { ScalingDone (full_lattice l st.now) choice m tstarts.now tcolumns.now tvalues.now
+    requires scaling_asked { ScalingAsked (the_lattice h.now) choice h.now.m rows.now.tstarts.now rows.now.tcolumns.now rows.now.tvalues.now scaling.old }
+    ensures { ScalingDone (the_lattice h.now) choice h.now.m rows.now.tstarts.now rows.now.tcolumns.now rows.now.tvalues.now
         scaling.old scaling.new (level_code result) }
 {
     match choice {
         Choice::Galerkin => None,
         Choice::Rediscretized => scaling::scaling(
-            l, st, lines, m, tstarts, tcolumns, tvalues, scaling,
+            h,
+            rows.tstarts,
+            rows.tcolumns,
+            rows.tvalues,
+            scaling,
         ),
     }
 }
@@ -110,44 +92,45 @@ fn scalings(
 // All of a setup's lists, for m transfers. The first level that has a number that is not finite.
 pub fn fill(
     choice: Choice,
-    l: Lattice,
-    st: &[f64],
-    lines: [Line; 36],
-    m: usize,
+    h: &Hierarchy<'_>,
     given: &[f64],
-    ends: &mut [usize],
-    eps: &mut [f64],
-    starts: &mut [usize],
-    columns: &mut [usize],
-    values: &mut [f64],
-    tstarts: &mut [usize],
-    tcolumns: &mut [usize],
-    tvalues: &mut [f64],
-    ostarts: &mut [usize],
-    ocolumns: &mut [usize],
-    ovalues: &mut [f64],
-    scaling: &mut [f64],
+    lists: &mut Lists<'_>,
 ) -> Option<usize>
-    requires limits { Limits l.grid }
-    requires m_bound { m ≤ 11 }
-    requires has_lines { HasLines (full_lattice l st.now) m lines }
-    requires st_in_bounds { 2 * edges_on (full_lattice l st.now) 0 ≤ length given.now }
-    requires enough { Enough (full_lattice l st.now) choice m (sizes (lent ends.old eps.old starts.old columns.old values.old
-        tstarts.old tcolumns.old tvalues.old ostarts.old ocolumns.old ovalues.old scaling.old)) }
-    ensures { filling (level_code result) (lent ends.new eps.new starts.new columns.new values.new
-        tstarts.new tcolumns.new tvalues.new ostarts.new ocolumns.new ovalues.new scaling.new)
-        ≡ fill_of (full_lattice l st.now) choice m (number_at given.now) (lent ends.old eps.old starts.old
-        columns.old values.old tstarts.old tcolumns.old tvalues.old ostarts.old
-        ocolumns.old ovalues.old scaling.old) }
+    requires st_in_bounds { 2 * edges_on (the_lattice h.now) 0 ≤ length given.now }
+    requires enough { Enough (the_lattice h.now) choice h.now.m (sizes (store_of lists.old)) }
+    ensures same { SameLists lists.old lists.new }
+    ensures filled { filling (level_code result) (store_of lists.new)
+        ≡ fill_of (the_lattice h.now) choice h.now.m (number_at given.now) (store_of lists.old) }
 {
-    ends::lay_ends(lines, m, ends);
+    // Each list is taken out first: once some are lent, the borrow checker covers no read behind `lists`.
+    let eps = &mut *lists.eps;
+    let starts = &mut *lists.starts;
+    let columns = &mut *lists.columns;
+    let values = &mut *lists.values;
+    let tstarts = &mut *lists.tstarts;
+    let tcolumns = &mut *lists.tcolumns;
+    let tvalues = &mut *lists.tvalues;
+    ends::lay_ends(h, lists.ends);
     let a = transfers::transfers(
-        l, st, lines, m, given, eps, starts, columns, values, tstarts, tcolumns, tvalues,
+        h, given, eps, starts, columns, values, tstarts, tcolumns, tvalues,
     );
+    let rows = Transfers {
+        starts,
+        columns,
+        values,
+        tstarts,
+        tcolumns,
+        tvalues,
+    };
     let b = operators(
-        choice, l, st, lines, m, eps, starts, columns, values, tstarts, tcolumns, tvalues, ostarts,
-        ocolumns, ovalues,
+        choice,
+        h,
+        eps,
+        &rows,
+        lists.ostarts,
+        lists.ocolumns,
+        lists.ovalues,
     );
-    let c = scalings(choice, l, st, lines, m, tstarts, tcolumns, tvalues, scaling);
-    first_bad(m, a, b, c)
+    let c = scalings(choice, h, &rows, lists.scaling);
+    first_bad(h.m, a, b, c)
 }

@@ -56,12 +56,7 @@ fn edges(c: Cells, level: usize) -> usize
 fn levels_there(c: Cells, n: usize) -> bool
     ensures { result ≡ levels_there c n }
 {
-    for q in 0..n {
-        if !level_there(c, q) {
-            return false;
-        }
-    }
-    true
+    (0..n).all(|q| level_there(c, q))
 }
 
 // Where the starts of a part begin, and its terms: behind those of the parts before it, each of which has as many terms as its last start says. Part q

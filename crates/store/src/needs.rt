@@ -1,20 +1,19 @@
 // How many places the lists need, from structure alone, and the list that is short.
 
+ghost use Rattle.store.specs.Hierarchy.{the_lattice};
 ghost use Rattle.std.specs.Prelude.{◌≡◌, suc, ◌+◌, ◌*◌, ◌<◌, ◌≤◌, ◌^◌, cond, eqb, not, unwrap_or, IfSome};
 ghost use Rattle.std.specs.List.{position};
 ghost use Rattle.numbers.specs.Lists.{sum_to};
-ghost use Rattle.lattice.specs.Grid.{Limits};
-ghost use Rattle.lattice.specs.Lattice.{full_lattice};
+ghost use Rattle.lattice.specs.Sound.{full};
 ghost use Rattle.operators.specs.LevelLists.{edges_on};
-ghost use Rattle.store.specs.Layout.{forward_off, operator_count, operator_off, ends_off};
+ghost use Rattle.store.specs.Layout.{forward_count, forward_off, operator_count, operator_off, ends_off};
 ghost use Rattle.store.specs.Setup.{room_of};
-ghost use Rattle.store.specs.Phases.{HasLines};
 ghost use Rattle.store.specs.FillSteps.{coarse_terms, only_count, needs_of, short_in};
 ghost use Rattle.store.specs.declared.Choice.TheVariants.{Galerkin, Rediscretized};
 
+use crate::hierarchy::Hierarchy;
 use crate::{Choice, lines, relations};
-use lattice::lattice::Lattice;
-use lattice::line::Line;
+use lattice::sound::Sound;
 use operators::pattern;
 use weights::{prolongation, tables};
 
@@ -52,13 +51,11 @@ pub struct Lengths {
 // ---- needs
 
 // The ends of the lines of all levels.
-fn line_ends(l: Lattice, st: &[f64], lines: [Line; 36], m: usize) -> usize
-    requires limits { Limits l.grid }
-    requires m_bound { m ≤ 11 }
-    requires has_lines { HasLines (full_lattice l st.now) m lines }
-    ensures { result ≡ ends_off (full_lattice l st.now) (3 * suc m) }
+fn line_ends(h: &Hierarchy<'_>) -> usize
+    ensures { result ≡ ends_off (the_lattice h.now) (3 * suc h.now.m) }
 {
-    let n = 3 * (m + 1);
+    let n = 3 * (h.m + 1);
+    let lines = h.lines;
     let mut total = 0;
     for f in &lines[..n] {
         total += f.cells + 1;
@@ -67,107 +64,77 @@ fn line_ends(l: Lattice, st: &[f64], lines: [Line; 36], m: usize) -> usize
 }
 
 // The edges of n levels from level `from` on.
-pub fn edges_from(
-    l: Lattice,
-    st: &[f64],
-    lines: [Line; 36],
-    m: usize,
-    from: usize,
-    n: usize,
-) -> usize
-    requires limits { Limits l.grid }
-    requires n_bound { (from + n ≤ m + 1) × (m ≤ 11) }
-    requires has_lines { HasLines (full_lattice l st.now) m lines }
-    ensures { result ≡ sum_to (λ i. edges_on (full_lattice l st.now) (from + i)) n }
+pub fn edges_from(h: &Hierarchy<'_>, from: usize, n: usize) -> usize
+    requires n_bound { from + n ≤ h.now.m + 1 }
+    ensures { result ≡ sum_to (λ i. edges_on (the_lattice h.now) (from + i)) n }
 {
-    let mut total = 0;
-    for i in 0..n {
-        total += lines::edges(l, lines::three(lines, from + i));
-    }
-    total
+    (from..from + n).map(|level| h.edges(level)).sum()
 }
 
-// The weights of all transfers.
-fn forward_terms(l: Lattice, st: &[f64], lines: [Line; 36], m: usize) -> usize
-    requires limits { Limits l.grid }
-    requires m_bound { m ≤ 11 }
-    requires has_lines { HasLines (full_lattice l st.now) m lines }
-    ensures { result ≡ forward_off (full_lattice l st.now) m }
+// The weights of a transfer.
+fn forward_on(h: &Hierarchy<'_>, level: usize) -> usize
+    requires level_lt_m { level < h.now.m }
+    ensures { result ≡ forward_count (the_lattice h.now) level }
 {
-    let mut total = 0;
-    for level in 0..m {
-        let fine = lines::three(lines, level);
-        let coarse = lines::three(lines, level + 1);
-        total += prolongation::count(l, st, fine, coarse);
-    }
-    total
+    prolongation::count(&h.pair(level))
+}
+
+// Those of all transfers.
+fn forward_terms(h: &Hierarchy<'_>) -> usize
+    ensures { result ≡ forward_off (the_lattice h.now) h.now.m }
+{
+    (0..h.m).map(|level| forward_on(h, level)).sum()
 }
 
 // The terms of the lattice's own rows.
-fn sole_terms(l: Lattice, st: &[f64]) -> usize
-    requires { Limits l.grid }
-    ensures value { result ≡ operator_count (full_lattice l st.now) Galerkin 0 }
-    ensures value_2 { result ≡ operator_count (full_lattice l st.now) Rediscretized 0 }
+fn sole_terms(l: &Sound<'_>) -> usize
+    ensures value { result ≡ operator_count (full l.now) Galerkin 0 }
+    ensures value_2 { result ≡ operator_count (full l.now) Rediscretized 0 }
 {
-    let u = pattern::base_relations(l, st, l.grid);
-    pattern::level_count(l, st, l.grid, &u)
+    let u = pattern::base_relations(l.lattice, l.st, l.lattice.grid);
+    pattern::level_count(l.lattice, l.st, l.lattice.grid, &u)
 }
 
 // The terms of Galerkin's operators of levels 1 to m: the relations go from level to level.
-fn galerkin_terms(l: Lattice, st: &[f64], lines: [Line; 36], m: usize) -> usize
-    requires limits { Limits l.grid }
-    requires m_bound { m ≤ 11 }
-    requires has_lines { HasLines (full_lattice l st.now) m lines }
-    ensures { result ≡ coarse_terms (full_lattice l st.now) Galerkin m }
+fn galerkin_terms(h: &Hierarchy<'_>) -> usize
+    ensures { result ≡ coarse_terms (the_lattice h.now) Galerkin h.now.m }
 {
-    let mut u = relations::first_relations(l, st);
+    let mut u = relations::first_relations(&h.l);
     let mut total = 0;
-    for level in 0..m {
-        u = relations::next_relations(l, st, lines, m, level, &u);
-        total += relations::level_terms(l, st, lines, m, level + 1, &u);
+    for level in 0..h.m {
+        u = relations::next_relations(h, level, &u);
+        total += relations::level_terms(h, level + 1, &u);
     }
     total
 }
 
 // Those of a rediscretized level.
-fn rediscretized_on(l: Lattice, st: &[f64], lines: [Line; 36], m: usize, level: usize) -> usize
-    requires limits { Limits l.grid }
-    requires level_le_m { (level ≤ m) × (m ≤ 11) }
-    requires has_lines { HasLines (full_lattice l st.now) m lines }
-    ensures { result ≡ operator_count (full_lattice l st.now) Rediscretized level }
+fn rediscretized_on(h: &Hierarchy<'_>, level: usize) -> usize
+    requires level_le_m { level ≤ h.now.m }
+    ensures { result ≡ operator_count (the_lattice h.now) Rediscretized level }
 {
-    let g = tables::grid_of(l.grid, lines::three(lines, level));
-    let u = pattern::base_relations(l, st, g);
-    pattern::level_count(l, st, g, &u)
+    let g = tables::grid_of(h.l.lattice.grid, h.three(level));
+    let u = pattern::base_relations(h.l.lattice, h.l.st, g);
+    pattern::level_count(h.l.lattice, h.l.st, g, &u)
 }
 
 // Those of the rediscretized operators of levels 1 to m.
-fn rediscretized_terms(l: Lattice, st: &[f64], lines: [Line; 36], m: usize) -> usize
-    requires limits { Limits l.grid }
-    requires m_bound { m ≤ 11 }
-    requires has_lines { HasLines (full_lattice l st.now) m lines }
-    ensures { result ≡ coarse_terms (full_lattice l st.now) Rediscretized m }
+fn rediscretized_terms(h: &Hierarchy<'_>) -> usize
+    ensures { result ≡ coarse_terms (the_lattice h.now) Rediscretized h.now.m }
 {
-    let mut total = 0;
-    for level in 0..m {
-        total += rediscretized_on(l, st, lines, m, level + 1);
-    }
-    total
+    (0..h.m).map(|level| rediscretized_on(h, level + 1)).sum()
 }
 
 // The terms of the stored operators: those of levels 1 to m, or that of the only level.
-fn operator_terms(l: Lattice, st: &[f64], lines: [Line; 36], m: usize, choice: Choice) -> usize
-    requires limits { Limits l.grid }
-    requires m_bound { m ≤ 11 }
-    requires has_lines { HasLines (full_lattice l st.now) m lines }
-    ensures { result ≡ operator_off (full_lattice l st.now) choice m (suc m) }
+fn operator_terms(h: &Hierarchy<'_>, choice: Choice) -> usize
+    ensures { result ≡ operator_off (the_lattice h.now) choice h.now.m (suc h.now.m) }
 {
-    if m == 0 {
-        return sole_terms(l, st);
+    if h.m == 0 {
+        return sole_terms(&h.l);
     }
     match choice {
-        Choice::Galerkin => galerkin_terms(l, st, lines, m),
-        Choice::Rediscretized => rediscretized_terms(l, st, lines, m),
+        Choice::Galerkin => galerkin_terms(h),
+        Choice::Rediscretized => rediscretized_terms(h),
     }
 }
 
@@ -193,24 +160,21 @@ fn stored_starts(m: usize, first: usize, coarse: usize) -> usize
 }
 
 // The needs of all lists of m transfers. `requires`: the lines of m + 1 levels.
-pub fn count(l: Lattice, st: &[f64], lines: [Line; 36], m: usize, choice: Choice) -> Needs
-    requires limits { Limits l.grid }
-    requires m_bound { m ≤ 11 }
-    requires has_lines { HasLines (full_lattice l st.now) m lines }
-    ensures { result ≡ needs_of (full_lattice l st.now) choice m }
+pub fn count(h: &Hierarchy<'_>, choice: Choice) -> Needs
+    ensures { result ≡ needs_of (the_lattice h.now) choice h.now.m }
 {
-    let first = edges_from(l, st, lines, m, 0, 1);
-    let fine = edges_from(l, st, lines, m, 0, m);
-    let coarse = edges_from(l, st, lines, m, 1, m);
+    let first = edges_from(h, 0, 1);
+    let fine = edges_from(h, 0, h.m);
+    let coarse = edges_from(h, 1, h.m);
     let averaged = only(choice, coarse);
     Needs {
-        ends: line_ends(l, st, lines, m),
+        ends: line_ends(h),
         eps: first + coarse + averaged,
-        starts: fine + m,
-        terms: forward_terms(l, st, lines, m),
-        tstarts: coarse + m,
-        ostarts: stored_starts(m, first, coarse),
-        oterms: operator_terms(l, st, lines, m, choice),
+        starts: fine + h.m,
+        terms: forward_terms(h),
+        tstarts: coarse + h.m,
+        ostarts: stored_starts(h.m, first, coarse),
+        oterms: operator_terms(h, choice),
         scaling: only(choice, fine + coarse),
     }
 }

@@ -1,23 +1,27 @@
 // Setup: the levels of a lattice in the lent lists, or a refusal.
 
-ghost use Rattle.std.specs.Prelude.{◌≡◌, ℕ, suc, ◌*◌, ◌<◌, ◌≤◌, ◌-◌, length};
+ghost use Rattle.store.specs.Hierarchy.{the_lattice};
+ghost use Rattle.std.specs.Prelude.{◌≡◌, suc, ◌*◌, ◌<◌, ◌≤◌, ◌-◌, length};
 ghost use Rattle.numbers.specs.Places.{number_at};
 ghost use Rattle.lattice.specs.Check.{accepted, and_then};
-ghost use Rattle.lattice.specs.Grid.{Limits};
-ghost use Rattle.lattice.specs.Lattice.{full_lattice};
+ghost use Rattle.lattice.specs.Sound.{full};
 ghost use Rattle.lattice.specs.Levels.{depth_verdict, count_of};
 ghost use Rattle.operators.specs.LevelLists.{edges_on};
-ghost use Rattle.store.specs.Store.{lent, zeroed};
-ghost use Rattle.store.specs.Setup.{result_of, unless, setup_of, all_to, names_once, short_of, input_of};
-ghost use Rattle.store.specs.Phases.{HasLines};
+ghost use Rattle.store.specs.Store.{zeroed};
+ghost use Rattle.store.specs.Lists.{store_of, SameLists};
+ghost use Rattle.store.specs.Setup.{result_of, unless, setup_of, all_to, names_once, short_of, input_on};
 ghost use Rattle.store.specs.FillSteps.{sizes_of};
 ghost use Rattle.store.specs.declared.setup.Refusal.TheVariants.{Input};
 ghost use Rattle.store.specs.Steps.{answer_of, LinesFound, structure_by, settled_of};
 
+use crate::hierarchy::Hierarchy;
+use crate::lists::Lists;
 use crate::needs::Lengths;
 use crate::{Choice, fill, needs};
-use lattice::lattice::Lattice;
+use lattice::input::Stretches;
+use lattice::lattice::{Lattice, stretches};
 use lattice::line::Line;
+use lattice::sound::Sound;
 use lattice::{check, levels};
 
 // What a setup is refused for: refusals 1 to 4 of its input, 5, 8 at a level, 6 at a list, 7 at a level.
@@ -41,44 +45,37 @@ impl From<check::Refusal> for Refusal {
 // ---- structure
 
 // Refusals 8 and 6 of m transfers, or the level count. Nothing looks for 8: it is proved that no row of a transfer names an edge twice.
-fn levels_structure(
-    choice: Choice,
-    l: Lattice,
-    st: &[f64],
-    lines: [Line; 36],
-    m: usize,
-    h: Lengths,
-) -> Result<usize, Refusal>
-    requires limits { Limits l.grid }
-    requires m_bound { m ≤ 11 }
-    requires has_lines { HasLines (full_lattice l st.now) m lines }
-    ensures { answer_of result ≡ and_then (all_to 8 (names_once (full_lattice l st.now)) m)
-        (and_then (short_of (full_lattice l st.now) choice m (sizes_of h)) (accepted (suc m))) }
+fn levels_structure(choice: Choice, h: &Hierarchy<'_>, room: Lengths) -> Result<usize, Refusal>
+    ensures { answer_of result ≡ and_then (all_to 8 (names_once (the_lattice h.now)) h.now.m)
+        (and_then (short_of (the_lattice h.now) choice h.now.m (sizes_of room)) (accepted (suc h.now.m))) }
 {
-    let short = needs::short(needs::count(l, st, lines, m, choice), h);
+    let short = needs::short(needs::count(h, choice), room);
     if let Some(list) = short {
         return Err(Refusal::Short(list));
     }
-    Ok(m + 1)
+    Ok(h.m + 1)
 }
 
 // Refusals 5, 8 and 6, from what the level loop found, or the level count.
 pub fn structure(
     choice: Choice,
-    l: Lattice,
-    st: &[f64],
+    l: &Sound<'_>,
     depth: Option<usize>,
-    lines: [Line; 36],
-    h: Lengths,
+    lines: &[Line; 36],
+    room: Lengths,
 ) -> Result<usize, Refusal>
-    requires limits { Limits l.grid }
-    requires lines_found { LinesFound (full_lattice l st.now) depth lines }
-    ensures { answer_of result ≡ structure_by (full_lattice l st.now) choice (depth_verdict depth) (sizes_of h) }
+    requires { LinesFound (full l.now) depth lines.now }
+    ensures { answer_of result ≡ structure_by (full l.now) choice (depth_verdict depth) (sizes_of room) }
 {
     let Some(n) = depth else {
         return Err(Refusal::TooMany);
     };
-    levels_structure(choice, l, st, lines, n - 1, h)
+    let h = Hierarchy {
+        l: *l,
+        lines,
+        m: n - 1,
+    };
+    levels_structure(choice, &h, room)
 }
 
 // The transfers of so many levels.
@@ -90,94 +87,28 @@ pub fn transfers_of(depth: Option<usize>) -> usize
 
 // ---- all lists
 
-// Zero in every place of every list.
-fn zero_all(
-    ends: &mut [usize],
-    eps: &mut [f64],
-    starts: &mut [usize],
-    columns: &mut [usize],
-    values: &mut [f64],
-    tstarts: &mut [usize],
-    tcolumns: &mut [usize],
-    tvalues: &mut [f64],
-    ostarts: &mut [usize],
-    ocolumns: &mut [usize],
-    ovalues: &mut [f64],
-    scaling: &mut [f64],
-)
-    ensures { lent ends.new eps.new starts.new columns.new values.new
-        tstarts.new tcolumns.new tvalues.new ostarts.new ocolumns.new ovalues.new scaling.new
-        ≡ zeroed (lent ends.old eps.old starts.old columns.old values.old
-        tstarts.old tcolumns.old tvalues.old ostarts.old ocolumns.old ovalues.old
-        scaling.old) }
-{
-    ends.fill(0);
-    eps.fill(0.0);
-    starts.fill(0);
-    columns.fill(0);
-    values.fill(0.0);
-    tstarts.fill(0);
-    tcolumns.fill(0);
-    tvalues.fill(0.0);
-    ostarts.fill(0);
-    ocolumns.fill(0);
-    ovalues.fill(0.0);
-    scaling.fill(0.0);
-}
-
 // The levels of a lattice within the limits, with its stretches and the given permittivities: in the lists or, after a refusal, not yet zeroed.
 fn fill_levels(
     choice: Choice,
-    l: Lattice,
-    st: &[f64],
+    l: &Sound<'_>,
     coarsest: usize,
     given: &[f64],
-    ends: &mut [usize],
-    eps: &mut [f64],
-    starts: &mut [usize],
-    columns: &mut [usize],
-    values: &mut [f64],
-    tstarts: &mut [usize],
-    tcolumns: &mut [usize],
-    tvalues: &mut [f64],
-    ostarts: &mut [usize],
-    ocolumns: &mut [usize],
-    ovalues: &mut [f64],
-    scaling: &mut [f64],
+    lists: &mut Lists<'_>,
 ) -> Result<usize, Refusal>
-    requires limits { Limits l.grid }
-    requires st_in_bounds { 2 * edges_on (full_lattice l st.now) 0 ≤ length given.now }
-    ensures { unless (answer_of result) (zeroed (lent ends.new eps.new starts.new columns.new values.new
-        tstarts.new tcolumns.new tvalues.new ostarts.new ocolumns.new ovalues.new scaling.new))
-        (result_of (answer_of result) (lent ends.new eps.new starts.new columns.new values.new
-        tstarts.new tcolumns.new tvalues.new ostarts.new ocolumns.new ovalues.new scaling.new))
-        ≡ settled_of (full_lattice l st.now) choice coarsest (number_at given.now) (lent ends.old eps.old starts.old
-        columns.old values.old tstarts.old tcolumns.old tvalues.old ostarts.old
-        ocolumns.old ovalues.old scaling.old) }
+    requires { 2 * edges_on (full l.now) 0 ≤ length given.now }
+    ensures same { SameLists lists.old lists.new }
+    ensures left { unless (answer_of result) (zeroed (store_of lists.new)) (result_of (answer_of result) (store_of lists.new))
+        ≡ settled_of (full l.now) choice coarsest (number_at given.now) (store_of lists.old) }
 {
-    let found = levels::join_lines(l, st, coarsest);
+    let found = levels::join_lines(l, coarsest);
     let depth = found.depth;
-    let lines = found.lines;
-    let h = Lengths {
-        ends: ends.len(),
-        eps: eps.len(),
-        starts: starts.len(),
-        columns: columns.len(),
-        values: values.len(),
-        tstarts: tstarts.len(),
-        tcolumns: tcolumns.len(),
-        tvalues: tvalues.len(),
-        ostarts: ostarts.len(),
-        ocolumns: ocolumns.len(),
-        ovalues: ovalues.len(),
-        scaling: scaling.len(),
+    let n = structure(choice, l, depth, &found.lines, lists.lengths())?;
+    let h = Hierarchy {
+        l: *l,
+        lines: &found.lines,
+        m: transfers_of(depth),
     };
-    let n = structure(choice, l, st, depth, lines, h)?;
-    let m = transfers_of(depth);
-    let bad = fill::fill(
-        choice, l, st, lines, m, given, ends, eps, starts, columns, values, tstarts, tcolumns,
-        tvalues, ostarts, ocolumns, ovalues, scaling,
-    );
+    let bad = fill::fill(choice, &h, given, lists);
     if let Some(level) = bad {
         return Err(Refusal::NotFinite(level));
     }
@@ -187,42 +118,21 @@ fn fill_levels(
 // The setup of a lattice within the limits, with its stretches and the given permittivities.
 fn settle(
     choice: Choice,
-    l: Lattice,
-    st: &[f64],
+    l: &Sound<'_>,
     coarsest: usize,
     given: &[f64],
-    ends: &mut [usize],
-    eps: &mut [f64],
-    starts: &mut [usize],
-    columns: &mut [usize],
-    values: &mut [f64],
-    tstarts: &mut [usize],
-    tcolumns: &mut [usize],
-    tvalues: &mut [f64],
-    ostarts: &mut [usize],
-    ocolumns: &mut [usize],
-    ovalues: &mut [f64],
-    scaling: &mut [f64],
+    lists: &mut Lists<'_>,
 ) -> Result<usize, Refusal>
-    requires limits { Limits l.grid }
-    requires st_in_bounds { 2 * edges_on (full_lattice l st.now) 0 ≤ length given.now }
-    ensures { result_of (answer_of result) (lent ends.new eps.new starts.new columns.new values.new
-        tstarts.new tcolumns.new tvalues.new ostarts.new ocolumns.new ovalues.new scaling.new)
-        ≡ settled_of (full_lattice l st.now) choice coarsest (number_at given.now) (lent ends.old eps.old starts.old
-        columns.old values.old tstarts.old tcolumns.old tvalues.old ostarts.old
-        ocolumns.old ovalues.old scaling.old) }
+    requires { 2 * edges_on (full l.now) 0 ≤ length given.now }
+    ensures same { SameLists lists.old lists.new }
+    ensures left { result_of (answer_of result) (store_of lists.new)
+        ≡ settled_of (full l.now) choice coarsest (number_at given.now) (store_of lists.old) }
 {
-    let answer = fill_levels(
-        choice, l, st, coarsest, given, ends, eps, starts, columns, values, tstarts, tcolumns,
-        tvalues, ostarts, ocolumns, ovalues, scaling,
-    );
+    let answer = fill_levels(choice, l, coarsest, given, lists);
     if answer.is_ok() {
         return answer;
     }
-    zero_all(
-        ends, eps, starts, columns, values, tstarts, tcolumns, tvalues, ostarts, ocolumns, ovalues,
-        scaling,
-    );
+    lists.clear();
     answer
 }
 
@@ -232,39 +142,21 @@ fn settle(
 // rows (starts, columns, values each), 5 scaling. Refusals 1 to 4 leave the lists as they were, 5 to 8 leave zero in every place.
 pub fn setup(
     v: Lattice,
-    xn: &[f64],
-    xh: &[f64],
-    yn: &[f64],
-    yh: &[f64],
-    zn: &[f64],
-    zh: &[f64],
+    on: &Stretches<'_>,
     given: &[f64],
     choice: Choice,
     coarsest: usize,
-    ends: &mut [usize],
-    eps: &mut [f64],
-    starts: &mut [usize],
-    columns: &mut [usize],
-    values: &mut [f64],
-    tstarts: &mut [usize],
-    tcolumns: &mut [usize],
-    tvalues: &mut [f64],
-    ostarts: &mut [usize],
-    ocolumns: &mut [usize],
-    ovalues: &mut [f64],
-    scaling: &mut [f64],
+    lists: &mut Lists<'_>,
 ) -> Result<usize, Refusal>
-    ensures { result_of (answer_of result) (lent ends.new eps.new starts.new columns.new values.new
-        tstarts.new tcolumns.new tvalues.new ostarts.new ocolumns.new ovalues.new scaling.new)
-        ≡ setup_of (input_of v xn.now xh.now yn.now yh.now zn.now zh.now choice coarsest)
-        given.now (lent ends.old eps.old starts.old
-        columns.old values.old tstarts.old tcolumns.old tvalues.old ostarts.old
-        ocolumns.old ovalues.old scaling.old) }
+    ensures same { SameLists lists.old lists.new }
+    ensures left { result_of (answer_of result) (store_of lists.new)
+        ≡ setup_of (input_on v on.now choice coarsest) given.now (store_of lists.old) }
 {
-    check::check(v, xn, xh, yn, yh, zn, zh, given)?;
-    let st = lattice::lattice::stretches(v, xn, xh, yn, yh, zn, zh);
-    settle(
-        choice, v, &st, coarsest, given, ends, eps, starts, columns, values, tstarts, tcolumns,
-        tvalues, ostarts, ocolumns, ovalues, scaling,
-    )
+    check::check(v, on, given)?;
+    let st = stretches(v, on);
+    let l = Sound {
+        lattice: v,
+        st: &st,
+    };
+    settle(choice, &l, coarsest, given, lists)
 }

@@ -1,18 +1,16 @@
 // The given permittivities and the transfers of all levels, laid one behind another into the lent lists.
 
+ghost use Rattle.store.specs.Hierarchy.{the_lattice};
 ghost use Rattle.std.specs.Prelude.{◌≡◌, suc, ◌+◌, ◌*◌, ◌<◌, ◌≤◌, ◌^◌, length, get_or};
 ghost use Rattle.numbers.specs.Places.{number_at};
 ghost use Rattle.numbers.specs.Lists.{tabulate, laid_numbers};
-ghost use Rattle.lattice.specs.Grid.{Limits};
-ghost use Rattle.lattice.specs.Lattice.{full_lattice};
 ghost use Rattle.operators.specs.LevelLists.{edges_on};
 ghost use Rattle.store.specs.Layout.{forward_count};
-ghost use Rattle.store.specs.Phases.{HasLines, TransferRoom, TransfersLeft, first_of, weights_fine, level_code};
+ghost use Rattle.store.specs.Phases.{TransferRoom, TransfersLeft, first_of, weights_fine, level_code};
 ghost use Rattle.store.specs.FillSteps.{offsets_at, behind_of, TransferDone};
 
+use crate::hierarchy::Hierarchy;
 use crate::lines;
-use lattice::lattice::Lattice;
-use lattice::line::Line;
 use numbers::terms::Part;
 use weights::whole;
 
@@ -28,12 +26,10 @@ pub struct Offsets {
 }
 
 // Where the parts of the first transfer begin.
-pub fn first_offsets(l: Lattice, st: &[f64], lines: [Line; 36], m: usize) -> Offsets
-    requires limits { Limits l.grid }
-    requires has_lines { HasLines (full_lattice l st.now) m lines }
-    ensures { result ≡ offsets_at (full_lattice l st.now) 0 }
+pub fn first_offsets(h: &Hierarchy<'_>) -> Offsets
+    ensures { result ≡ offsets_at (the_lattice h.now) 0 }
 {
-    let n = lines::edges(l, lines::three(lines, 0));
+    let n = h.edges(0);
     Offsets {
         feps: 0,
         ceps: n,
@@ -60,25 +56,15 @@ fn behind(o: Offsets, n: usize, m: usize, w: usize) -> Offsets
 }
 
 // Where the parts of the next transfer begin: the starts of this one's forward rows stand in the list.
-pub fn next_offsets(
-    l: Lattice,
-    st: &[f64],
-    lines: [Line; 36],
-    m: usize,
-    level: usize,
-    o: Offsets,
-    starts: &[usize],
-) -> Offsets
-    requires limits { Limits l.grid }
-    requires level_lt_m { (level < m) × (m ≤ 11) }
-    requires has_lines { HasLines (full_lattice l st.now) m lines }
-    requires o_value { o ≡ offsets_at (full_lattice l st.now) level }
-    requires level_in_bounds { (o.s + edges_on (full_lattice l st.now) level < length starts.now)
-        × (get_or starts.now (o.s + edges_on (full_lattice l st.now) level) 0 ≡ forward_count (full_lattice l st.now) level) }
-    ensures { result ≡ offsets_at (full_lattice l st.now) (suc level) }
+pub fn next_offsets(h: &Hierarchy<'_>, level: usize, o: Offsets, starts: &[usize]) -> Offsets
+    requires level_lt_m { level < h.now.m }
+    requires o_value { o ≡ offsets_at (the_lattice h.now) level }
+    requires level_in_bounds { (o.s + edges_on (the_lattice h.now) level < length starts.now)
+        × (get_or starts.now (o.s + edges_on (the_lattice h.now) level) 0 ≡ forward_count (the_lattice h.now) level) }
+    ensures { result ≡ offsets_at (the_lattice h.now) (suc level) }
 {
-    let n = lines::edges(l, lines::three(lines, level));
-    let k = lines::edges(l, lines::three(lines, level + 1));
+    let n = h.edges(level);
+    let k = h.edges(level + 1);
     let s = o.s;
     behind(o, n, k, starts[s + n])
 }
@@ -93,10 +79,7 @@ fn lay_given(given: &[f64], n: usize, eps: &mut [f64])
 
 // The transfer from level `level` + 1 to `level`: the permittivities of the coarse level, the forward rows and the turned rows. Whether all is finite.
 fn level_transfer(
-    l: Lattice,
-    st: &[f64],
-    lines: [Line; 36],
-    m: usize,
+    h: &Hierarchy<'_>,
     level: usize,
     o: Offsets,
     eps: &mut [f64],
@@ -107,32 +90,25 @@ fn level_transfer(
     tcolumns: &mut [usize],
     tvalues: &mut [f64],
 ) -> bool
-    requires limits { Limits l.grid }
-    requires level_lt_m { (level < m) × (m ≤ 11) }
-    requires has_lines { HasLines (full_lattice l st.now) m lines }
-    requires o_value { o ≡ offsets_at (full_lattice l st.now) level }
-    requires transfer_room { TransferRoom (full_lattice l st.now) m eps.old starts.old columns.old values.old tstarts.old tcolumns.old tvalues.old }
-    ensures { TransferDone (full_lattice l st.now) level result eps.old starts.old columns.old values.old
+    requires level_lt_m { level < h.now.m }
+    requires o_value { o ≡ offsets_at (the_lattice h.now) level }
+    requires transfer_room { TransferRoom (the_lattice h.now) h.now.m eps.old starts.old columns.old values.old tstarts.old tcolumns.old tvalues.old }
+    ensures { TransferDone (the_lattice h.now) level result eps.old starts.old columns.old values.old
         tstarts.old tcolumns.old tvalues.old eps.new starts.new columns.new values.new
         tstarts.new tcolumns.new tvalues.new }
 {
-    let fine = lines::three(lines, level);
-    let coarse = lines::three(lines, level + 1);
+    let pair = h.pair(level);
     let p = Part { s: o.s, k: o.k };
     let t = Part { s: o.ts, k: o.tk };
     whole::transfer(
-        l, st, fine, coarse, o.feps, o.ceps, p, t, eps, starts, columns, values, tstarts, tcolumns,
-        tvalues,
+        &pair, o.feps, o.ceps, p, t, eps, starts, columns, values, tstarts, tcolumns, tvalues,
     )
 }
 
 // The given permittivities and m transfers. The first transfer that has a number that is not finite.
 // `requires`: the lines of m + 1 levels, as many given permittivities as the lattice has edges, and room.
 pub fn transfers(
-    l: Lattice,
-    st: &[f64],
-    lines: [Line; 36],
-    m: usize,
+    h: &Hierarchy<'_>,
     given: &[f64],
     eps: &mut [f64],
     starts: &mut [usize],
@@ -142,25 +118,22 @@ pub fn transfers(
     tcolumns: &mut [usize],
     tvalues: &mut [f64],
 ) -> Option<usize>
-    requires limits { Limits l.grid }
-    requires m_bound { m ≤ 11 }
-    requires has_lines { HasLines (full_lattice l st.now) m lines }
-    requires st_in_bounds { 2 * edges_on (full_lattice l st.now) 0 ≤ length given.now }
-    requires transfer_room { TransferRoom (full_lattice l st.now) m eps.old starts.old columns.old values.old tstarts.old tcolumns.old tvalues.old }
-    ensures transfers_left { TransfersLeft (full_lattice l st.now) (number_at given.now) m eps.old starts.old columns.old
+    requires st_in_bounds { 2 * edges_on (the_lattice h.now) 0 ≤ length given.now }
+    requires transfer_room { TransferRoom (the_lattice h.now) h.now.m eps.old starts.old columns.old values.old tstarts.old tcolumns.old tvalues.old }
+    ensures transfers_left { TransfersLeft (the_lattice h.now) (number_at given.now) h.now.m eps.old starts.old columns.old
         values.old tstarts.old tcolumns.old tvalues.old eps.new starts.new columns.new
         values.new tstarts.new tcolumns.new tvalues.new }
-    ensures value { level_code result ≡ first_of (weights_fine (full_lattice l st.now) (number_at given.now)) m }
+    ensures value { level_code result ≡ first_of (weights_fine (the_lattice h.now) (number_at given.now)) h.now.m }
 {
-    let n = lines::edges(l, lines::three(lines, 0));
+    let n = h.edges(0);
     lay_given(given, n, eps);
-    let mut o = first_offsets(l, st, lines, m);
+    let mut o = first_offsets(h);
     let mut bad = None;
-    for level in 0..m {
+    for level in 0..h.m {
         let ok = level_transfer(
-            l, st, lines, m, level, o, eps, starts, columns, values, tstarts, tcolumns, tvalues,
+            h, level, o, eps, starts, columns, values, tstarts, tcolumns, tvalues,
         );
-        o = next_offsets(l, st, lines, m, level, o, starts);
+        o = next_offsets(h, level, o, starts);
         bad = lines::noted(bad, level, ok);
     }
     bad

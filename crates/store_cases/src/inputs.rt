@@ -3,6 +3,7 @@ use crate::steps::Step;
 use case_lines::lists;
 use case_lines::words::Numbers;
 use lattice::grid::Grid3d;
+use lattice::input::Stretches;
 use lattice::lattice::{Edges, Lattice};
 use numbers::C64;
 use programs::bytes;
@@ -130,6 +131,17 @@ impl Settings {
         let from = LISTS + ROOM * k;
         let to = self.counts[k].saturating_add(from);
         self.doubles.get(from..to).unwrap_or(&[])
+    }
+
+    pub fn stretches(&self) -> Stretches<'_> {
+        Stretches {
+            xn: self.list(0),
+            xh: self.list(1),
+            yn: self.list(2),
+            yh: self.list(3),
+            zn: self.list(4),
+            zh: self.list(5),
+        }
     }
 
     // The starts of the line `places`.

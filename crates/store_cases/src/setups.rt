@@ -1,10 +1,10 @@
 // A setup: what it needs, what it answers, what it leaves in the twelve lists, and its rows handed back; then the steps behind it.
 use crate::inputs::Settings;
 use crate::{show, steps};
-use case_lines::lists::Lists;
 use case_lines::shown::{Number, digest};
 use std::io;
 use store::handed::Cells;
+use store::lists::Lists;
 use store::needed::Needed;
 use store::setup::Refusal;
 use store::{handed, needed, setup};
@@ -41,46 +41,14 @@ fn rows(rt: &impl Print, c: Cells, l: &Lists<'_>) -> io::Result<()> {
 
 // What the setup needs, printed.
 fn needs(rt: &impl Print, s: &Settings) -> io::Result<Result<Needed, Refusal>> {
-    let n = needed::setup_needs(
-        s.lattice(),
-        s.list(0),
-        s.list(1),
-        s.list(2),
-        s.list(3),
-        s.list(4),
-        s.list(5),
-        s.choice(),
-        s.coarsest(),
-    );
+    let n = needed::setup_needs(s.lattice(), &s.stretches(), s.choice(), s.coarsest());
     show::needed(rt, n)?;
     Ok(n)
 }
 
 fn set_up(s: &Settings, l: &mut Lists<'_>) -> Result<usize, Refusal> {
-    setup::setup(
-        s.lattice(),
-        s.list(0),
-        s.list(1),
-        s.list(2),
-        s.list(3),
-        s.list(4),
-        s.list(5),
-        s.list(6),
-        s.choice(),
-        s.coarsest(),
-        l.ends,
-        l.eps,
-        l.starts,
-        l.columns,
-        l.values,
-        l.tstarts,
-        l.tcolumns,
-        l.tvalues,
-        l.ostarts,
-        l.ocolumns,
-        l.ovalues,
-        l.scaling,
-    )
+    let on = s.stretches();
+    setup::setup(s.lattice(), &on, s.list(6), s.choice(), s.coarsest(), l)
 }
 
 // What stands in the lists, printed.

@@ -1,7 +1,7 @@
 // The steps behind an accepted setup: changes, and what a holder may do between them.
 use crate::inputs::Settings;
 use crate::show;
-use case_lines::lists::{Lists, front_mut, put};
+use case_lines::lists::{front_mut, put};
 use case_lines::shown::digest;
 use case_lines::words::Numbers;
 use changes::change;
@@ -9,6 +9,7 @@ use numbers::C64;
 use programs::bytes;
 use std::io;
 use store::change::Refusal;
+use store::lists::{self, Lists, Structure};
 
 // A step, which the line `steps` gives by four words: a kind and what it takes.
 #[derive(Clone, Copy)]
@@ -128,33 +129,35 @@ fn alter_double(l: &mut Lists<'_>, list: usize, place: usize, double: f64) {
 
 // ---- a change
 
-// The change of an edge to a value in the fronts of the lists. Each is lent to be written, those of words too: a `&` of one beside a `&mut` of another gets no proof.
+// The change of an edge to a value in the fronts of the lists.
 fn change(s: &Settings, edge: usize, value: C64, l: &mut Lists<'_>) -> Result<usize, Refusal> {
     let lent = s.lent;
+    let fixed = Structure {
+        ends: front_mut(l.ends, lent[0]),
+        starts: front_mut(l.starts, lent[2]),
+        columns: front_mut(l.columns, lent[3]),
+        tstarts: front_mut(l.tstarts, lent[5]),
+        tcolumns: front_mut(l.tcolumns, lent[6]),
+        ostarts: front_mut(l.ostarts, lent[8]),
+        ocolumns: front_mut(l.ocolumns, lent[9]),
+    };
+    let mut numbers = lists::Numbers {
+        eps: front_mut(l.eps, lent[1]),
+        values: front_mut(l.values, lent[4]),
+        tvalues: front_mut(l.tvalues, lent[7]),
+        ovalues: front_mut(l.ovalues, lent[10]),
+        scaling: front_mut(l.scaling, lent[11]),
+    };
+    let on = s.stretches();
     change::change(
         s.lattice(),
-        s.list(0),
-        s.list(1),
-        s.list(2),
-        s.list(3),
-        s.list(4),
-        s.list(5),
+        &on,
         s.choice(),
         s.coarsest(),
         edge,
         value,
-        front_mut(l.ends, lent[0]),
-        front_mut(l.eps, lent[1]),
-        front_mut(l.starts, lent[2]),
-        front_mut(l.columns, lent[3]),
-        front_mut(l.values, lent[4]),
-        front_mut(l.tstarts, lent[5]),
-        front_mut(l.tcolumns, lent[6]),
-        front_mut(l.tvalues, lent[7]),
-        front_mut(l.ostarts, lent[8]),
-        front_mut(l.ocolumns, lent[9]),
-        front_mut(l.ovalues, lent[10]),
-        front_mut(l.scaling, lent[11]),
+        &fixed,
+        &mut numbers,
     )
 }
 

@@ -108,10 +108,6 @@ length_cell g p first n = length_tabulate (edge_along g p) n first
 
 -- the cell's two nodes
 module _ {gf gc : Grid3d} {nn : List ℕ} {p : Position} {m : ℕ} (c : Cell gf gc nn p m) where
-  -- they are in the list
-  pub node_index : 65 * p.component + m + 1 < 195
-  node_index = omega (arith, c.inside.c_in, c.place, place_inside c.inside p.component, n_most c.coarse_limits p.component)
-
   first_is : get_or nn (65 * p.component + m) 0 ≡ cell_first nn p
   unfolding cell_first
   first_is = rw c.place
@@ -122,9 +118,6 @@ module _ {gf gc : Grid3d} {nn : List ℕ} {p : Position} {m : ℕ} (c : Cell gf 
 
   pub line_inside : {q : Position} → q ≡ on_fine_in nn p → LineInside gf q (get_or nn (65 * p.component + m + 1) 0)
   line_inside o = rw (o, last_is) (cell_inside c.nested c.inside)
-
-  pub nodes_rising : get_or nn (65 * p.component + m) 0 ≤ get_or nn (65 * p.component + m + 1) 0
-  nodes_rising = rw (first_is, last_is) (cell_rises c.nested c.inside)
 
   pub count_float : T (in_float binary64 (pos (get_or nn (65 * p.component + m + 1) 0 - get_or nn (65 * p.component + m) 0)))
   count_float =
@@ -194,11 +187,6 @@ chaining_turn {gf} {gc} {nn} {n} {from} {to} {r} {xs} {ys} lf lc d m p h e q z =
 pub chaining_end : {f : ℕ → C64} {n m to : ℕ} {xs ys : List Float} {r : ℕ} → Chaining f n to xs ys r → n ≤ r → n ≡ m
     → ys ≡ laid_numbers xs to (tabulate f m 0)
 chaining_end {f} {n} p h e = rw e at (spread_end p.rest (rw (length_tabulate f n 0) h))
-
--- the list still has all that is read
-pub chaining_room : {f : ℕ → C64} {n m k from to r : ℕ} {xs ys : List Float} → ChainRoom n m from to xs → Chaining f k to xs ys r
-    → (from ≤ 2 ^ 32) × (2 * (from + n) ≤ length ys)
-chaining_room m p = (omega (arith, m.apart, m.low), omega (arith, m.apart, m.room, p.long))
 
 -- ---- from the levels
 

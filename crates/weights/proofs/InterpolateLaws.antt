@@ -6,9 +6,9 @@ use mathlib.Core.Path.{◌≡◌, refl, sym, ap, ◌∙◌}
 use mathlib.Core.Bool.{Bool, true, false, cond, ◌&&◌}
 use mathlib.Core.List.{List, [], ◌∷◌, ◌++◌, map}
 use borrow.Author.Tests.{ltb-false, lt-ltb, le-ltb}
-use lib.Dec.{T, eqb, ltb}
+use lib.Dec.{eqb, ltb}
 use lib.IntN.{pos}
-use lib.Ieee.{Float, binary64, of_int, in_float}
+use lib.Ieee.{Float, binary64, of_int}
 use lib.ListN.{length, get_or, get_or-eq_default}
 use Rattle.numbers.specs.declared.C64.{C64}
 use Rattle.numbers.specs.Complex.{zero_f, no_number}
@@ -20,7 +20,6 @@ use Rattle.std.specs.Prelude.{None, Some, Option, unwrap_or, position}
 use Rattle.std.specs.List.{position_or_len}
 use Rattle.std.proofs.lemmas.List.Sums.{position_or_len_is}
 use Rattle.numbers.specs.Lists.{tabulate}
-use Rattle.lattice.proofs.LevelLaws.{in_double}
 use Rattle.numbers.specs.Lists.{before}
 use Rattle.numbers.proofs.ElementLaws.{before_most, before_below, before_reached}
 use Rattle.numbers.proofs.TabulateLaws.{length_tabulate, tabulate_at_0}
@@ -140,7 +139,3 @@ pub coordinate_place : (x : List C64) (p : ℕ) {e : Edges} {phase : C64} → e 
     → record { re = of_int binary64 (pos p); im = zero_f } ≡ coordinate e x p
 unfolding whole
 coordinate_place x p q = rw q
-
--- a place, or the sum of two, is a double
-pub place_float : (p : ℕ) → p < 258 → T (in_float binary64 (pos p))
-place_float p h = in_double p (omega arith)

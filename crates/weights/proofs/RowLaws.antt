@@ -20,7 +20,7 @@ use Rattle.numbers.proofs.LoopLaws.{each_tabulate}
 use Rattle.weights.specs.declared.rows.Pull.{Pull}
 use Rattle.weights.specs.Prolongation.{is_along}
 use Rattle.weights.specs.Product.{column_in}
-use Rattle.weights.specs.Tables.{slot_of, slot_on, pull_in, PlacesOf, NodesOf, columns_in_z, columns_in_y, columns_in, number_in, numbers_in_z, numbers_in_y, numbers_in}
+use Rattle.weights.specs.Tables.{HasSlots, slot_of, slot_on, pull_in, PlacesOf, NodesOf, columns_in_z, columns_in_y, columns_in, number_in, numbers_in_z, numbers_in_y, numbers_in}
 
 -- ---- the slot of a position on an axis
 
@@ -116,13 +116,7 @@ pub place_small : {g : Grid3d} {p : Position} → Limits g → Inside g p → (p
 place_small l h = (omega (arith, l.x_most, h.i_in), omega (arith, l.y_most, h.j_in), omega (arith, l.z_most, h.k_in))
 
 -- so with those of an edge
-pub record Low (p : Position) : Type 0 where
-  pub c_low : p.component < 3
-  pub i_low : p.i < 64
-  pub j_low : p.j < 64
-  pub k_low : p.k < 64
-
-pub at_low : {g : Grid3d} {p : Position} {r : ℕ} → Limits g → r < unknowns_of g → p ≡ at_of g r → Low p
+pub at_low : {g : Grid3d} {p : Position} {r : ℕ} → Limits g → r < unknowns_of g → p ≡ at_of g r → HasSlots p
 at_low {g} {p} {r} l h e =
     let i : Inside g (at_of g r) = at_inside l r h in
     let s = place_small l i in

@@ -33,12 +33,11 @@ use Rattle.lattice.proofs.LineLaws.{length_ends, ends_at, length_nodes}
 use Rattle.numbers.proofs.TabulateLaws.{is_tabulate, length_tabulate, tabulate_at}
 use Rattle.weights.specs.declared.interpolate.Share.{Share}
 use Rattle.weights.specs.TwoLevels.{TwoLevels, fine_line, coarse_line, node_on}
-use Rattle.weights.specs.Interpolate.{taken_places, share_place, share_weight, share_term, shares_in, kept_shares}
+use Rattle.weights.specs.Interpolate.{share_place, share_weight, share_term, shares_in, kept_shares}
 use Rattle.weights.proofs.InterpolateLaws.{places_taken, terms_taken}
-use Rattle.weights.specs.Product.{walled, kept_places}
+use Rattle.weights.specs.Product.{walled}
 use Rattle.weights.specs.Tables.{slot_axis, slot_along, slot_place, slot_wall, slot_block, slot_taken, slot_pulled, slot_shares, slot_ratio, entry_share, lines_in, value_entry, end_no, node_no, map_no, map_in, count_from, place_from, pull_from, HeldThree, ValuesOf}
 use Rattle.numbers.proofs.ListLaws.{laid_length, laid_before, laid_at}
-use Rattle.weights.proofs.ProductLaws.{taken_most, kept_most}
 use Rattle.numbers.proofs.Equations.{tabulate_zero, tabulate_suc, laid_by_nil, laid_by_cons}
 use Rattle.numbers.proofs.CopyLaws.{laid_part}
 use Rattle.weights.proofs.Equations.{lines_in_0, lines_in_1, lines_in_2}
@@ -264,28 +263,6 @@ module _ (l : FullLattice) (gf gc : Grid3d) (fs cs : List ℕ) (q : ℕ) where
       (slot_wall l q && eqb (slot_place q) 0)
       (terms_taken (slot_wall l q) (edges_of l (slot_axis q)) (map_in xs (q / 64)) (slot_block gc cs q) (get_or es (slot_axis q) 0) (slot_along q) (get_or fs q 0))
 
--- ---- a slot takes at most two
-
-pub taken_few : (l : FullLattice) (gf gc : Grid3d) (fs cs : List ℕ) (q : ℕ) → length (slot_taken l gf gc fs cs q) ≤ 2
-unfolding slot_taken
-taken_few l gf gc fs cs q = go (ltb (slot_place q) (n_of gf (slot_axis q))) (slot_wall l q && eqb (slot_place q) 0)
-  where
-    e : Edges
-    e = edges_of l (slot_axis q)
-
-    bs : List ℕ
-    bs = slot_block gc cs q
-
-    go : (a b : Bool) → length (cond a (cond b [] (kept_places (slot_wall l q) (taken_places e bs (slot_along q) (get_or fs q 0)))) []) ≤ 2
-    go false b = omega arith
-    go true true = omega arith
-    go true false =
-        omega (
-          arith,
-          kept_most (slot_wall l q) (taken_places e bs (slot_along q) (get_or fs q 0)),
-          taken_most e bs (slot_along q) (get_or fs q 0),
-        )
-
 -- ---- what is read of the entries
 
 one_of : {A : Type 0} (xs : List A) (d : ℕ) (z : A) → get_or (take 1 (drop d xs)) 0 z ≡ get_or xs d z
@@ -310,8 +287,16 @@ module _ (l : FullLattice) (gf gc : Grid3d) (fs cs : List ℕ) where
   unfolding count_from
   count_is q = sym (length-map (slot_shares l gf gc fs cs q) share_place) ∙ ap length (shares_places l gf gc fs cs q)
 
+  -- entry e is entry d of slot q
+  entry_no : (q d e : ℕ) → e ≡ 2 * q + d → d < 2 → take 1 (drop d (slot_shares l gf gc fs cs q)) ≡ entry_share l gf gc fs cs e
+  unfolding entry_share
+  entry_no q d e is h =
+      let own : e / 2 ≡ q = omega arith in
+      let same : e % 2 ≡ d = omega arith in
+      rw (own, same)
+
   module _ (e : ℕ) {us : List Share} (own : us ≡ entry_share l gf gc fs cs e) where
-    pub place_is : get_or (map share_place us) 0 0 ≡ place_from l gf gc fs cs e
+    place_is : get_or (map share_place us) 0 0 ≡ place_from l gf gc fs cs e
     unfolding place_from entry_share
     place_is =
         ap (λ vs. get_or vs 0 0)
@@ -320,7 +305,7 @@ module _ (l : FullLattice) (gf gc : Grid3d) (fs cs : List ℕ) where
         ∙ ap (λ vs. take 1 (drop (e % 2) vs)) (shares_places l gf gc fs cs (e / 2)))
         ∙ one_of (slot_taken l gf gc fs cs (e / 2)) (e % 2) 0
 
-    pub pull_is : (xs : List Float) (es : List ℕ) {t : C64} → t ≡ slot_ratio l gc fs cs xs es (e / 2) → get_or (map (share_weight t) us) 0 zero_number ≡ pull_from l gf gc fs cs xs es e
+    pull_is : (xs : List Float) (es : List ℕ) {t : C64} → t ≡ slot_ratio l gc fs cs xs es (e / 2) → get_or (map (share_weight t) us) 0 zero_number ≡ pull_from l gf gc fs cs xs es e
     unfolding pull_from entry_share
     pull_is xs es {t} r =
         ap (λ vs. get_or vs 0 zero_number)
@@ -330,6 +315,18 @@ module _ (l : FullLattice) (gf gc : Grid3d) (fs cs : List ℕ) where
         (weights_map t (slot_shares l gf gc fs cs (e / 2))
         ∙ ap numbers_of (ap (λ u. map (share_term u) (slot_shares l gf gc fs cs (e / 2))) r ∙ shares_terms l gf gc fs cs (e / 2) xs es)))
         ∙ one_of (numbers_of (slot_pulled l gf gc fs cs xs es (e / 2))) (e % 2) zero_number
+
+  module _ (q d e : ℕ) (is : e ≡ 2 * q + d) (h : d < 2) {ss us : List Share} (s : ss ≡ slot_shares l gf gc fs cs q) (g : us ≡ take 1 (drop d ss)) where
+    entry_own : us ≡ entry_share l gf gc fs cs e
+    entry_own = g ∙ ap (λ vs. take 1 (drop d vs)) s ∙ entry_no q d e is h
+
+    pub slot_place_is : {p : ℕ} → p ≡ get_or (map share_place us) 0 0 → p ≡ place_from l gf gc fs cs e
+    slot_place_is p = p ∙ place_is e entry_own
+
+    pub slot_pull_is : (xs : List Float) (es : List ℕ) {w : C64} → w ≡ get_or (map (share_weight (slot_ratio l gc fs cs xs es q)) us) 0 zero_number → w ≡ pull_from l gf gc fs cs xs es e
+    slot_pull_is xs es p =
+        let own : q ≡ e / 2 = omega arith in
+        p ∙ pull_is e entry_own xs es (ap (slot_ratio l gc fs cs xs es) own)
 
 -- ---- a slot's wall, by the tests of the code
 

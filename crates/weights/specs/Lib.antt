@@ -5,5 +5,6 @@ pub mod CoarseEps
 pub mod Product
 pub mod Calls
 pub mod Tables
+pub mod Pair
 pub mod Whole
 pub mod Cases

@@ -2,6 +2,7 @@
 -- Slot q is that of axis q / 128, along it if q / 64 is odd and else across it, place q % 64. A slot has at most two entries, 2 q and 2 q + 1.
 -- Assumes nothing.
 use Rattle.std.specs.Prelude.{ℕ, zero, suc, ◌+◌, ◌-◌, ◌*◌, ◌/◌, ◌%◌, ◌<◌, ◌≤◌, ◌^◌, ◌≡◌, Bool, ◌&&◌, cond, List, [], ◌∷◌, eqb, ltb, length, get_or, take, drop, Float}
+use Rattle.std.specs.Coded.{×_prop, Unit-prop, le_prop}
 use Rattle.numbers.specs.declared.C64.{C64}
 use Rattle.numbers.specs.Complex.{zero_number, no_number, product, quotient}
 use Rattle.numbers.specs.Places.{number_at}
@@ -105,6 +106,13 @@ pub record HeldThree (s : Three) : Type 0 where
   pub y_held : Held s.y
   pub z_held : Held s.z
 
+-- a proof that a list rises is the only one, as a field of a struct that holds it needs
+pub rises_prop : (es : List ℕ) → IsProp (Rises es)
+unfolding Rises
+rises_prop [] = Unit-prop
+rises_prop (a ∷ []) = Unit-prop
+rises_prop (a ∷ (b ∷ es)) = ×_prop le_prop (rises_prop (b ∷ es))
+
 pub record Paired (l : FullLattice) (fine coarse : Three) : Type 0 where
   pub base_limits : Limits l.grid
   pub fine_held : HeldThree fine
@@ -200,6 +208,13 @@ numbers_row gf gc f g ps ds ns xs r = numbers_in gf gc f g ps ds ns xs (at_of gf
 pub record RowLaid (s : Span) (ps ds ns : List ℕ) (xs eps values : List Float) (at r : ℕ) (b : Bool) (values' : List Float) : Type 0 where
   pub numbers_are : values' ≡ laid_numbers values at (numbers_row s.fine s.coarse (read_from eps s.feps) (read_from eps s.ceps) ps ds ns xs r)
   pub finite : b ≡ all_finite (numbers_row s.fine s.coarse (read_from eps s.feps) (read_from eps s.ceps) ps ds ns xs r)
+
+-- each place of a position has a slot
+pub record HasSlots (p : Position) : Type 0 where
+  pub c_low : p.component < 3
+  pub i_low : p.i < 64
+  pub j_low : p.j < 64
+  pub k_low : p.k < 64
 
 -- how many weights a row has, from the counts
 unfoldable pub count_in : List ℕ → Position → ℕ

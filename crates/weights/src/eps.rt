@@ -5,18 +5,17 @@ ghost use Rattle.std.specs.Prelude.{◌≡◌, [], ◌∷◌, ℕ, ◌+◌, ◌-
 ghost use Rattle.numbers.specs.Complex.{zero_number, finite};
 ghost use Rattle.numbers.specs.Places.{number_at, set_number};
 ghost use Rattle.lattice.specs.Grid.{unknowns_of, Limits, place_on, at_of};
-ghost use Rattle.lattice.specs.Lattice.{full_lattice};
 ghost use Rattle.numbers.specs.Lists.{tabulate, summed, laid_numbers, all_finite, read_from, any_flag};
-ghost use Rattle.weights.specs.TwoLevels.{fine_grid, coarse_grid, two_of};
+ghost use Rattle.weights.specs.TwoLevels.{fine_grid, coarse_grid};
+ghost use Rattle.weights.specs.Pair.{two};
 ghost use Rattle.std.specs.List.{list_any, range_with_len};
 ghost use Rattle.weights.specs.CoarseEps.{edge_along, edges_along, inverted, coarse_eps};
-ghost use Rattle.weights.specs.Tables.{Paired, NestedIn, ChainRoom, LineInside, on_fine_in, coarse_eps_in, eps_reads_in, CellAt, node_count};
+ghost use Rattle.weights.specs.Tables.{NestedIn, ChainRoom, LineInside, on_fine_in, coarse_eps_in, eps_reads_in, CellAt, node_count};
 
+use crate::pair::Pair;
 use crate::tables;
 use lattice::grid;
 use lattice::grid::{Grid3d, Position};
-use lattice::lattice::Lattice;
-use lattice::levels::Three;
 use numbers::{C64, lists};
 
 // The fine edges of a coarse edge's cell: places first to last - 1 along the component of a node of the fine level.
@@ -126,7 +125,7 @@ pub fn coarse_eps_row(
 
 // Whether one of the edges at places first to last - 1 along the component of p is flagged.
 #[tactic(auto, unfolding(crate::specs::CoarseEps::edge_along))]
-fn line_flagged(gf: Grid3d, flags: &[bool], p: Position, first: usize, last: usize) -> bool
+pub fn line_flagged(gf: Grid3d, flags: &[bool], p: Position, first: usize, last: usize) -> bool
     requires limits { Limits gf }
     requires first_le_last { (first ≤ last) × (LineInside gf p last) }
     ensures { result ≡ list_any (λ m. get_or flags.now (edge_along gf p m) false) (range_with_len first (last - first)) }
@@ -159,25 +158,16 @@ fn all_eps(gf: Grid3d, gc: Grid3d, nn: &[usize], eps: &mut [f64], from: usize, t
 }
 
 // The permittivities of the coarse level of two, laid behind place `to`, from those of the fine one at place `from`; whether all are finite.
-pub fn coarse_eps(
-    l: Lattice,
-    st: &[f64],
-    fine: Three,
-    coarse: Three,
-    eps: &mut [f64],
-    from: usize,
-    to: usize,
-) -> bool
-    requires paired { Paired (full_lattice l st.now) fine coarse }
-    requires chain_room { ChainRoom (unknowns_of (fine_grid (two_of (full_lattice l st.now) fine coarse))) (unknowns_of (coarse_grid (two_of (full_lattice l st.now) fine coarse))) from to eps.old }
-    ensures eps_after { eps.new ≡ laid_numbers eps.old to (tabulate (coarse_eps (two_of (full_lattice l st.now) fine coarse)
-        (read_from eps.old from)) (unknowns_of (coarse_grid (two_of (full_lattice l st.now) fine coarse))) 0) }
-    ensures value { result ≡ all_finite (tabulate (coarse_eps (two_of (full_lattice l st.now) fine coarse) (read_from eps.old from))
-        (unknowns_of (coarse_grid (two_of (full_lattice l st.now) fine coarse))) 0) }
+pub fn coarse_eps(pair: &Pair<'_>, eps: &mut [f64], from: usize, to: usize) -> bool
+    requires chain_room { ChainRoom (unknowns_of (fine_grid (two pair.now))) (unknowns_of (coarse_grid (two pair.now))) from to eps.old }
+    ensures eps_after { eps.new ≡ laid_numbers eps.old to (tabulate (coarse_eps (two pair.now)
+        (read_from eps.old from)) (unknowns_of (coarse_grid (two pair.now))) 0) }
+    ensures value { result ≡ all_finite (tabulate (coarse_eps (two pair.now) (read_from eps.old from))
+        (unknowns_of (coarse_grid (two pair.now))) 0) }
 {
-    let gf = tables::grid_of(l.grid, fine);
-    let gc = tables::grid_of(l.grid, coarse);
-    let nn = tables::nodes(l, st, fine, coarse);
+    let gf = tables::grid_of(pair.l.lattice.grid, pair.fine);
+    let gc = tables::grid_of(pair.l.lattice.grid, pair.coarse);
+    let nn = tables::nodes(pair);
     all_eps(gf, gc, &nn, eps, from, to);
     lists::finite_numbers(eps, to, grid::unknowns(gc))
 }

@@ -1,6 +1,6 @@
 // Interpolation along one axis: which coarse values a fine place takes, and with which weights.
-// `requires` of these functions: the places of the coarse values in a list; at least one, as every line has.
-// Where a place is made a double: places of a lattice, at most 128, so that it is exact.
+// `requires` of these functions: the places of the coarse values in a list; at least one, as every line has. Where a place is made a double: an
+// `Axis`, whose places are at most 128, so that it is exact.
 
 ghost use Rattle.std.specs.Prelude.{◌≡◌, [], ◌∷◌, ℕ, ◌<◌, ◌≤◌, length, get_or, take, drop, option_to_list, position, nat_lt};
 ghost use Rattle.numbers.specs.Complex.{no_number};
@@ -37,6 +37,20 @@ pub enum Share {
 pub struct Few {
     pub first: Option<Share>,
     pub second: Option<Share>,
+}
+
+// An axis whose coarse values have coordinates: block `block` of the maps gives those of the places, and the period is the line's end. The maps are
+// whole, there is a value, and every place is one of a map.
+#[derive(Clone, Copy)]
+pub struct Axis<'a> {
+    pub edges: Edges,
+    pub maps: &'a [f64],
+    pub block: usize,
+    pub values: &'a [usize],
+    pub period: usize,
+    ghost maps_long: { (length maps.now ≡ 1548) × (block < 6) },
+    ghost some: { (0 < length values.now) × (period < map_points) },
+    ghost low: { (m : ℕ) → m < length values.now → get_or values.now m 0 < map_points },
 }
 
 impl Share {
@@ -250,59 +264,6 @@ pub fn taken(e: Edges, cs: &[usize], along: bool, p: usize, wall: bool) -> Few
 
 // ---- numbers
 
-// The coordinate at place p by block b of the maps; on a Bloch axis the place itself.
-fn coordinate(e: Edges, maps: &[f64], b: usize, p: usize) -> C64
-    requires maps_len { (length maps.now ≡ 1548) × (b < 6) }
-    requires p_bound { p < 258 }
-    ensures { result ≡ coordinate_at e (map_in maps.now b) p }
-{
-    match e {
-        Edges::Pml => {
-            if p < 129 {
-                return numbers::get(maps, 129 * b + p);
-            }
-            let nan = 0.0 / 0.0;
-            C64 { re: nan, im: nan }
-        }
-        Edges::Bloch(_) => C64 {
-            re: p as f64,
-            im: 0.0,
-        },
-    }
-}
-
-// That of the low neighbour where h values lie before the place.
-#[tactic(auto, unfolding(crate::specs::Interpolate::low_coordinate, crate::specs::Interpolate::whole))]
-fn low_coordinate(e: Edges, maps: &[f64], b: usize, cs: &[usize], period: usize, h: usize) -> C64
-    requires maps_len { (length maps.now ≡ 1548) × (b < 6) }
-    requires cs_some { (0 < length cs.now) × (period < map_points) }
-    requires by_index { (m : ℕ) → m < length cs.now → get_or cs.now m 0 < map_points }
-    requires h_in_bounds { h ≤ length cs.now }
-    ensures { result ≡ low_coordinate e (map_in maps.now b) cs.now period h }
-{
-    if h == 0 {
-        return C64 {
-            re: cs[cs.len() - 1] as f64 - period as f64,
-            im: 0.0,
-        };
-    }
-    coordinate(e, maps, b, cs[h - 1])
-}
-
-// That of the high one.
-#[tactic(auto, unfolding(crate::specs::Interpolate::high_coordinate))]
-fn high_coordinate(e: Edges, maps: &[f64], b: usize, cs: &[usize], period: usize, h: usize) -> C64
-    requires maps_len { (length maps.now ≡ 1548) × (b < 6) }
-    requires cs_some { (0 < length cs.now) × (period < map_points) }
-    requires by_index { (m : ℕ) → m < length cs.now → get_or cs.now m 0 < map_points }
-    ensures { result ≡ high_coordinate e (map_in maps.now b) cs.now period h }
-{
-    if cs.len() <= h {
-        return coordinate(e, maps, b, cs[0] + period);
-    }
-    coordinate(e, maps, b, cs[h])
-}
-
 // How far p lies from low to high.
 #[tactic(auto, unfolding(crate::specs::Interpolate::ratio))]
 fn ratio(p: C64, low: C64, high: C64) -> C64
@@ -311,17 +272,64 @@ fn ratio(p: C64, low: C64, high: C64) -> C64
     (p - low) / (high - low)
 }
 
-// How far place p lies from its low neighbour to its high one.
-#[tactic(auto, unfolding(crate::specs::Interpolate::ratio_at))]
-pub fn ratio_at(e: Edges, maps: &[f64], b: usize, cs: &[usize], period: usize, p: usize) -> C64
-    requires maps_len { (length maps.now ≡ 1548) × (b < 6) }
-    requires cs_some { (0 < length cs.now) × (period < map_points) }
-    requires by_index { (m : ℕ) → m < length cs.now → get_or cs.now m 0 < map_points }
-    requires p_lt_map_points { p < map_points }
-    ensures { result ≡ ratio_at e (map_in maps.now b) cs.now period p (up_to cs.now p) }
-{
-    let h = up_to(cs, p);
-    let low = low_coordinate(e, maps, b, cs, period, h);
-    let high = high_coordinate(e, maps, b, cs, period, h);
-    ratio(coordinate(e, maps, b, p), low, high)
+impl Axis<'_> {
+    // The coordinate at place p: the map there; on a Bloch axis the place itself.
+    fn coordinate(&self, p: usize) -> C64
+        requires { p < 258 }
+        ensures { result ≡ coordinate_at self.now.edges (map_in self.now.maps.now self.now.block) p }
+    {
+        match self.edges {
+            Edges::Pml => {
+                if p < 129 {
+                    return numbers::get(self.maps, 129 * self.block + p);
+                }
+                let nan = 0.0 / 0.0;
+                C64 { re: nan, im: nan }
+            }
+            Edges::Bloch(_) => C64 {
+                re: p as f64,
+                im: 0.0,
+            },
+        }
+    }
+
+    // That of the low neighbour where h values lie before the place.
+    #[tactic(auto, unfolding(crate::specs::Interpolate::low_coordinate, crate::specs::Interpolate::whole))]
+    fn low_coordinate(&self, h: usize) -> C64
+        requires { h ≤ length self.now.values.now }
+        ensures { result ≡ low_coordinate self.now.edges (map_in self.now.maps.now self.now.block) self.now.values.now self.now.period h }
+    {
+        let cs = self.values;
+        if h == 0 {
+            return C64 {
+                re: cs[cs.len() - 1] as f64 - self.period as f64,
+                im: 0.0,
+            };
+        }
+        self.coordinate(cs[h - 1])
+    }
+
+    // That of the high one.
+    #[tactic(auto, unfolding(crate::specs::Interpolate::high_coordinate))]
+    fn high_coordinate(&self, h: usize) -> C64
+        ensures { result ≡ high_coordinate self.now.edges (map_in self.now.maps.now self.now.block) self.now.values.now self.now.period h }
+    {
+        let cs = self.values;
+        if cs.len() <= h {
+            return self.coordinate(cs[0] + self.period);
+        }
+        self.coordinate(cs[h])
+    }
+
+    // How far place p lies from its low neighbour to its high one.
+    #[tactic(auto, unfolding(crate::specs::Interpolate::ratio_at))]
+    pub fn ratio_at(&self, p: usize) -> C64
+        requires { p < map_points }
+        ensures { result ≡ ratio_at self.now.edges (map_in self.now.maps.now self.now.block) self.now.values.now self.now.period p (up_to self.now.values.now p) }
+    {
+        let h = up_to(self.values, p);
+        let low = self.low_coordinate(h);
+        let high = self.high_coordinate(h);
+        ratio(self.coordinate(p), low, high)
+    }
 }

@@ -4,6 +4,7 @@
 
 pub mod eps;
 pub mod interpolate;
+pub mod pair;
 pub mod prolongation;
 pub mod rows;
 pub mod tables;

@@ -1,72 +1,66 @@
 // The prolongation between two levels, into lent lists: starts and columns, from the lattice alone, and weights, from the permittivities.
-// `requires` of all of them: the lines of two neighbouring levels, and offsets far from the largest number.
+// `requires` of all of them: offsets far from the largest number.
 
 ghost use Rattle.std.specs.Prelude.{◌≡◌, ℕ, ◌+◌, ◌-◌, ◌*◌, ◌<◌, ◌≤◌, ◌^◌, length, set, sum};
 ghost use Rattle.numbers.specs.Places.{set_number};
 ghost use Rattle.lattice.specs.Grid.{unknowns_of, Limits};
-ghost use Rattle.lattice.specs.Lattice.{full_lattice};
 ghost use Rattle.numbers.specs.Lists.{Laid, laid, laid_numbers, rows as rows_of, all_finite, start_of, starts_of, read_from, sum_to};
-ghost use Rattle.weights.specs.TwoLevels.{two_of, fine_grid, coarse_grid};
+ghost use Rattle.weights.specs.TwoLevels.{fine_grid, coarse_grid};
+ghost use Rattle.weights.specs.Pair.{two};
 ghost use Rattle.weights.specs.Prolongation.{weight_columns, weight_numbers};
 ghost use Rattle.weights.specs.Product.{row_weights};
-ghost use Rattle.weights.specs.Tables.{Paired, RoomFor, CountsOf, counted_to, axis_count, component_count};
+ghost use Rattle.weights.specs.Tables.{RoomFor, CountsOf, counted_to, axis_count, component_count};
 
-use crate::rows::{Span, Weights};
+use crate::pair::Pair;
+use crate::rows::{Places, Span, Weights};
 use crate::{rows, tables};
 use lattice::grid;
 use lattice::grid::Grid3d;
-use lattice::lattice::Lattice;
-use lattice::levels::Three;
 use numbers::lists;
 
 // The columns of all rows from place k of the columns on, and the rows' starts from place s of the starts on. How many weights there are.
 pub fn columns(
-    l: Lattice,
-    st: &[f64],
-    fine: Three,
-    coarse: Three,
+    pair: &Pair<'_>,
     starts: &mut [usize],
     s: usize,
     columns: &mut [usize],
     k: usize,
 ) -> usize
-    requires paired { Paired (full_lattice l st.now) fine coarse }
     requires s_bound { (s ≤ 2 ^ 32) × (k ≤ 2 ^ 32) }
-    ensures starts_after { starts.new ≡ laid starts.old s (starts_of (weight_columns (two_of (full_lattice l st.now) fine coarse))
-        (unknowns_of (fine_grid (two_of (full_lattice l st.now) fine coarse)))) }
-    ensures laid { Laid set columns.old k (rows_of (weight_columns (two_of (full_lattice l st.now) fine coarse)) (unknowns_of
-        (fine_grid (two_of (full_lattice l st.now) fine coarse)))) columns.new (k + result) }
+    ensures starts_after { starts.new ≡ laid starts.old s (starts_of (weight_columns (two pair.now))
+        (unknowns_of (fine_grid (two pair.now)))) }
+    ensures laid { Laid set columns.old k (rows_of (weight_columns (two pair.now)) (unknowns_of
+        (fine_grid (two pair.now)))) columns.new (k + result) }
 {
-    let t = tables::slots_of(l, st, fine, coarse);
-    let gf = t.levels.fine;
-    let gc = t.levels.coarse;
-    rows::all_columns(gf, gc, &t.places, &t.counts, starts, s, columns, k) - k
+    let t = tables::slots_of(pair);
+    let list = Places {
+        coarse: t.levels.coarse,
+        places: &t.places,
+        counts: &t.counts,
+    };
+    rows::all_columns(t.levels.fine, &list, starts, s, columns, k) - k
 }
 
 // The weights of all rows from place k of the values on, by the permittivities of the fine level at place feps of eps and those of the coarse one at
 // place ceps. Whether all are finite.
 pub fn weights(
-    l: Lattice,
-    st: &[f64],
-    fine: Three,
-    coarse: Three,
+    pair: &Pair<'_>,
     eps: &[f64],
     feps: usize,
     ceps: usize,
     values: &mut [f64],
     k: usize,
 ) -> bool
-    requires paired { Paired (full_lattice l st.now) fine coarse }
-    requires room_for { RoomFor (two_of (full_lattice l st.now) fine coarse) feps ceps eps.now }
-    requires k_bound { (k ≤ 2 ^ 32) × (2 * (k + start_of (weight_columns (two_of (full_lattice l st.now) fine coarse)) (unknowns_of (fine_grid (two_of (full_lattice l st.now) fine coarse)))) ≤ length
+    requires room_for { RoomFor (two pair.now) feps ceps eps.now }
+    requires k_bound { (k ≤ 2 ^ 32) × (2 * (k + start_of (weight_columns (two pair.now)) (unknowns_of (fine_grid (two pair.now)))) ≤ length
         values.old) }
-    ensures values_after { values.new ≡ laid_numbers values.old k (rows_of (weight_numbers (two_of (full_lattice l st.now) fine coarse)
-        (read_from eps.now feps) (read_from eps.now ceps)) (unknowns_of (fine_grid (two_of (full_lattice l st.now) fine coarse)))) }
-    ensures value { result ≡ all_finite (rows_of (weight_numbers (two_of (full_lattice l st.now) fine coarse) (read_from eps.now feps)
-        (read_from eps.now ceps)) (unknowns_of (fine_grid (two_of (full_lattice l st.now) fine coarse)))) }
+    ensures values_after { values.new ≡ laid_numbers values.old k (rows_of (weight_numbers (two pair.now)
+        (read_from eps.now feps) (read_from eps.now ceps)) (unknowns_of (fine_grid (two pair.now)))) }
+    ensures value { result ≡ all_finite (rows_of (weight_numbers (two pair.now) (read_from eps.now feps)
+        (read_from eps.now ceps)) (unknowns_of (fine_grid (two pair.now)))) }
 {
-    let t = tables::slots_of(l, st, fine, coarse);
-    let w = tables::weighed(l, st, fine, coarse, &t);
+    let t = tables::slots_of(pair);
+    let w = tables::weighed(pair, &t);
     let list = Weights {
         span: Span {
             fine: t.levels.fine,
@@ -127,19 +121,17 @@ fn count_all(gf: Grid3d, ns: &[usize]) -> usize
 }
 
 // How many weights each row has, added over the rows.
-fn count_rows(l: Lattice, st: &[f64], fine: Three, coarse: Three) -> usize
-    requires { Paired (full_lattice l st.now) fine coarse }
-    ensures { result ≡ sum_to (row_weights (two_of (full_lattice l st.now) fine coarse)) (unknowns_of (fine_grid (two_of (full_lattice l st.now) fine coarse))) }
+fn count_rows(pair: &Pair<'_>) -> usize
+    ensures { result ≡ sum_to (row_weights (two pair.now)) (unknowns_of (fine_grid (two pair.now))) }
 {
-    let t = tables::levels_of(l, st, fine, coarse);
-    let ns = tables::counts(l, st, t.fine, t.coarse, &t.fine_values, &t.coarse_values);
+    let t = tables::levels_of(pair);
+    let ns = tables::counts(pair.l.lattice, pair.l.st, &t);
     count_all(t.fine, &ns)
 }
 
 // How many weights the transfer has, before any is worked out.
-pub fn count(l: Lattice, st: &[f64], fine: Three, coarse: Three) -> usize
-    requires { Paired (full_lattice l st.now) fine coarse }
-    ensures { result ≡ start_of (weight_columns (two_of (full_lattice l st.now) fine coarse)) (unknowns_of (fine_grid (two_of (full_lattice l st.now) fine coarse))) }
+pub fn count(pair: &Pair<'_>) -> usize
+    ensures { result ≡ start_of (weight_columns (two pair.now)) (unknowns_of (fine_grid (two pair.now))) }
 {
-    count_rows(l, st, fine, coarse)
+    count_rows(pair)
 }

@@ -1,23 +1,27 @@
 // The weights of the axes in lists, worked out once for each transfer: a slot for each axis, role and fine place, with at most two entries.
 
-ghost use Rattle.std.specs.Prelude.{◌≡◌, ℕ, ◌+◌, ◌-◌, ◌*◌, ◌/◌, ◌%◌, ◌<◌, ◌≤◌, List, length, get_or, set, ltb, cond, map, option_to_list};
-ghost use Rattle.weights.specs.Interpolate.{share_place, few_list};
+ghost use Rattle.std.specs.Prelude.{◌≡◌, ℕ, ◌+◌, ◌-◌, ◌*◌, ◌/◌, ◌%◌, ◌<◌, ◌≤◌, List, length, get_or, set, ltb, cond, map, option_to_list, replicate};
+ghost use Rattle.weights.specs.Interpolate.{share_place, share_weight, few_list};
 ghost use Rattle.numbers.specs.Complex.{zero_number};
 ghost use Rattle.numbers.specs.Places.{number_at, set_number};
 ghost use Rattle.lattice.specs.Grid.{Limits, n_of};
+ghost use Rattle.lattice.specs.Sound.{full};
 ghost use Rattle.lattice.specs.Lattice.{full_lattice};
 ghost use Rattle.numbers.specs.Lists.{tabulate, laid, laid_numbers, Numbers};
 ghost use Rattle.lattice.specs.Line.{ends_of, place_of, Held};
-ghost use Rattle.weights.specs.TwoLevels.{grid_with, fine_grid, coarse_grid, two_of};
-ghost use Rattle.weights.specs.Tables.{slot_of, slot_axis, slot_along, slot_place, slot_wall, lines_in, value_entry, end_no, node_no, map_no, HeldThree, Paired, ValuesOf, EndsOf, slot_block, slot_shares, slot_ratio, entry_share, count_from, place_from, node_from, pull_from, all_slots, entry_count, node_count, Worked, Slotted, Pulled};
+ghost use Rattle.weights.specs.TwoLevels.{grid_with, fine_grid, coarse_grid};
+ghost use Rattle.weights.specs.Pair.{two};
+ghost use Rattle.weights.specs.Tables.{slot_of, slot_axis, slot_along, slot_place, slot_wall, lines_in, value_entry, end_no, node_no, map_no, HeldThree, ValuesOf, EndsOf, slot_block, slot_shares, slot_ratio, count_from, place_from, node_from, pull_from, all_slots, entry_count, node_count, Worked, Slotted, Pulled};
 ghost use Rattle.lattice.specs.Stretched.{map_points};
 
 use crate::interpolate;
-use crate::interpolate::{Few, Share};
+use crate::interpolate::{Axis, Few, Share};
+use crate::pair::Pair;
 use lattice::grid::Grid3d;
 use lattice::lattice::Lattice;
 use lattice::levels::Three;
 use lattice::line::Line;
+use lattice::sound::Sound;
 use lattice::{grid, line, stretched};
 use numbers::C64;
 use std::array;
@@ -31,13 +35,15 @@ pub const ENTRY_DOUBLES: usize = 1536;
 // 65 nodes for each axis.
 pub const NODES: usize = 195;
 
-// The grids of two levels, and the places of their values, by slots.
+// The grids of two levels, and the places of their values, by slots. The coarse grid is within the limits, the places are below 129.
 #[derive(Drop)]
 pub struct Levels {
     pub fine: Grid3d,
     pub coarse: Grid3d,
     pub fine_values: [usize; SLOTS],
     pub coarse_values: [usize; SLOTS],
+    ghost limits: { Limits coarse },
+    ghost values_of: { ValuesOf fine_values coarse_values },
 }
 
 // What the slots of two levels take, without numbers: how many entries each has, and the coarse place of each entry.
@@ -89,43 +95,43 @@ fn slot_along(q: usize) -> bool
 // ---- what the lines give
 
 // The place of value i, zero where a line has none.
-fn value_on(l: Line, i: usize, along: bool) -> usize
-    requires { Held l }
-    ensures { result ≡ cond (ltb i (length (ends_of l) - 1)) (place_of (ends_of l) i along) 0 }
+fn value_on(l: &Line, i: usize, along: bool) -> usize
+    requires { Held l.now }
+    ensures { result ≡ cond (ltb i (length (ends_of l.now) - 1)) (place_of (ends_of l.now) i along) 0 }
 {
     if i < l.cells {
-        return line::place(l, i, along);
+        return line::place(*l, i, along);
     }
     0
 }
 
-fn value_place(s: Three, q: usize) -> usize
-    requires { HeldThree s }
-    ensures { result ≡ value_entry (lines_in s) q }
+fn value_place(s: &Three, q: usize) -> usize
+    requires { HeldThree s.now }
+    ensures { result ≡ value_entry (lines_in s.now) q }
 {
     let axis = q / 128;
     let along = slot_along(q);
     if axis == 0 {
-        return value_on(s.x, q % 64, along);
+        return value_on(&s.x, q % 64, along);
     }
     if axis == 1 {
-        return value_on(s.y, q % 64, along);
+        return value_on(&s.y, q % 64, along);
     }
-    value_on(s.z, q % 64, along)
+    value_on(&s.z, q % 64, along)
 }
 
 // The places of a level's values, by slots.
-pub fn value_places(s: Three) -> [usize; SLOTS]
-    requires { HeldThree s }
-    ensures { result ≡ tabulate (value_entry (lines_in s)) all_slots 0 }
+pub fn value_places(s: &Three) -> [usize; SLOTS]
+    requires { HeldThree s.now }
+    ensures { result ≡ tabulate (value_entry (lines_in s.now)) all_slots 0 }
 {
     array::from_fn(|q| value_place(s, q))
 }
 
 // The last ends of a level's lines.
-pub fn last_ends(s: Three) -> [usize; 3]
-    requires { HeldThree s }
-    ensures { result ≡ tabulate (end_no (lines_in s)) 3 0 }
+pub fn last_ends(s: &Three) -> [usize; 3]
+    requires { HeldThree s.now }
+    ensures { result ≡ tabulate (end_no (lines_in s.now)) 3 0 }
 {
     [
         s.x.ends[s.x.cells],
@@ -143,14 +149,13 @@ fn lay_nodes(nodes: [usize; 65], a: usize, out: &mut [usize])
 }
 
 // For each node of the coarse level the number of the same node on the fine one, 65 for each axis.
-pub fn nodes(l: Lattice, st: &[f64], fine: Three, coarse: Three) -> [usize; NODES]
-    requires { Paired (full_lattice l st.now) fine coarse }
-    ensures { result ≡ tabulate (node_no (two_of (full_lattice l st.now) fine coarse)) node_count 0 }
+pub fn nodes(pair: &Pair<'_>) -> [usize; NODES]
+    ensures { result ≡ tabulate (node_no (two pair.now)) node_count 0 }
 {
     let mut out = [0usize; NODES];
-    lay_nodes(line::nodes_of(fine.x, coarse.x), 0, &mut out);
-    lay_nodes(line::nodes_of(fine.y, coarse.y), 1, &mut out);
-    lay_nodes(line::nodes_of(fine.z, coarse.z), 2, &mut out);
+    lay_nodes(line::nodes_of(pair.fine.x, pair.coarse.x), 0, &mut out);
+    lay_nodes(line::nodes_of(pair.fine.y, pair.coarse.y), 1, &mut out);
+    lay_nodes(line::nodes_of(pair.fine.z, pair.coarse.z), 2, &mut out);
     out
 }
 
@@ -165,21 +170,20 @@ fn lay_map(x: [C64; 129], b: usize, out: &mut [f64])
 }
 
 // The maps across and along each axis, one behind another.
-pub fn maps(l: Lattice, st: &[f64]) -> [f64; 1548]
-    requires { Limits l.grid }
-    ensures { Numbers (map_no (full_lattice l st.now)) 774 result }
+pub fn maps(l: &Sound<'_>) -> [f64; 1548]
+    ensures { Numbers (map_no (full l.now)) 774 result }
 {
     let mut out = [0.0; 1548];
-    lay_map(stretched::across_map(l, st, 0), 0, &mut out);
-    lay_map(stretched::along_map(l, st, 0), 1, &mut out);
-    lay_map(stretched::across_map(l, st, 1), 2, &mut out);
-    lay_map(stretched::along_map(l, st, 1), 3, &mut out);
-    lay_map(stretched::across_map(l, st, 2), 4, &mut out);
-    lay_map(stretched::along_map(l, st, 2), 5, &mut out);
+    lay_map(stretched::across_map(l, 0), 0, &mut out);
+    lay_map(stretched::along_map(l, 0), 1, &mut out);
+    lay_map(stretched::across_map(l, 1), 2, &mut out);
+    lay_map(stretched::along_map(l, 1), 3, &mut out);
+    lay_map(stretched::across_map(l, 2), 4, &mut out);
+    lay_map(stretched::along_map(l, 2), 5, &mut out);
     out
 }
 
-// ---- slots. `requires`: the values' places of both levels, and grids within the limits.
+// ---- slots. The lattice's own grid is not asked for here, so the lattice goes beside its list, and not as a `Sound`.
 
 fn slot_wall(l: Lattice, st: &[f64], q: usize) -> bool
     ensures { result ≡ slot_wall (full_lattice l st.now) q }
@@ -188,33 +192,22 @@ fn slot_wall(l: Lattice, st: &[f64], q: usize) -> bool
 }
 
 // The coarse values' places of a slot's axis and role.
-fn block(gc: Grid3d, cs: &[usize], q: usize) -> &[usize]
-    requires limits { Limits gc }
-    requires cs_len { (length cs.now ≡ all_slots) × (q < all_slots) }
-    ensures { result.now ≡ slot_block gc cs.now q }
+fn block(t: &Levels, q: usize) -> &[usize]
+    requires { q < all_slots }
+    ensures { result.now ≡ slot_block t.now.coarse t.now.coarse_values q }
 {
     let first = q - q % 64;
-    &cs[first..first + grid::n(gc, q / 128)]
+    &t.coarse_values[first..first + grid::n(t.coarse, q / 128)]
 }
 
 // What slot q takes: nothing past the fine line's values, nor where it is fixed.
-fn slot_taken(
-    l: Lattice,
-    st: &[f64],
-    gf: Grid3d,
-    gc: Grid3d,
-    fs: &[usize],
-    cs: &[usize],
-    q: usize,
-) -> Few
-    requires limits { Limits gc }
-    requires values_of { ValuesOf fs.now cs.now }
-    requires q_lt_all_slots { q < all_slots }
-    ensures { few_list result ≡ slot_shares (full_lattice l st.now) gf gc fs.now cs.now q }
+fn slot_taken(l: Lattice, st: &[f64], t: &Levels, q: usize) -> Few
+    requires { q < all_slots }
+    ensures { few_list result ≡ slot_shares (full_lattice l st.now) t.now.fine t.now.coarse t.now.fine_values t.now.coarse_values q }
 {
     let axis = q / 128;
     let i = q % 64;
-    if i >= grid::n(gf, axis) {
+    if i >= grid::n(t.fine, axis) {
         return Few::none();
     }
     let wall = slot_wall(l, st, q);
@@ -222,118 +215,63 @@ fn slot_taken(
         return Few::none();
     }
     let e = lattice::lattice::edges_on(l, st, axis);
-    interpolate::taken(e, block(gc, cs, q), slot_along(q), fs[q], wall)
+    interpolate::taken(e, block(t, q), slot_along(q), t.fine_values[q], wall)
 }
 
 // How far the place of slot q lies from its low neighbour to its high one.
-fn slot_ratio(
-    l: Lattice,
-    st: &[f64],
-    gc: Grid3d,
-    fs: &[usize],
-    cs: &[usize],
-    xs: &[f64],
-    es: &[usize],
-    q: usize,
-) -> C64
-    requires limits { Limits gc }
-    requires values_of { ValuesOf fs.now cs.now }
+fn slot_ratio(l: Lattice, st: &[f64], t: &Levels, xs: &[f64], es: &[usize], q: usize) -> C64
     requires xs_len { (length xs.now ≡ 1548) × EndsOf es.now }
     requires q_lt_all_slots { q < all_slots }
-    ensures { result ≡ slot_ratio (full_lattice l st.now) gc fs.now cs.now xs.now es.now q }
+    ensures { result ≡ slot_ratio (full_lattice l st.now) t.now.coarse t.now.fine_values t.now.coarse_values xs.now es.now q }
 {
-    let e = lattice::lattice::edges_on(l, st, q / 128);
-    interpolate::ratio_at(e, xs, q / 64, block(gc, cs, q), es[q / 128], fs[q])
-}
-
-// Entry e, if its slot has it.
-#[tactic(auto, unfolding(crate::specs::Tables::entry_share))]
-fn entry(
-    l: Lattice,
-    st: &[f64],
-    gf: Grid3d,
-    gc: Grid3d,
-    fs: &[usize],
-    cs: &[usize],
-    e: usize,
-) -> Option<Share>
-    requires limits { Limits gc }
-    requires values_of { ValuesOf fs.now cs.now }
-    requires e_lt_entry_count { e < entry_count }
-    ensures { option_to_list result ≡ entry_share (full_lattice l st.now) gf gc fs.now cs.now e }
-{
-    slot_taken(l, st, gf, gc, fs, cs, e / 2).get(e % 2)
+    let a = Axis {
+        edges: lattice::lattice::edges_on(l, st, q / 128),
+        maps: xs,
+        block: q / 64,
+        values: block(t, q),
+        period: es[q / 128],
+    };
+    a.ratio_at(t.fine_values[q])
 }
 
 // How many entries slot q has.
-fn count(
-    l: Lattice,
-    st: &[f64],
-    gf: Grid3d,
-    gc: Grid3d,
-    fs: &[usize],
-    cs: &[usize],
-    q: usize,
-) -> usize
-    requires limits { Limits gc }
-    requires values_of { ValuesOf fs.now cs.now }
-    requires q_lt_all_slots { q < all_slots }
-    ensures { result ≡ count_from (full_lattice l st.now) gf gc fs.now cs.now q }
+fn count(l: Lattice, st: &[f64], t: &Levels, q: usize) -> usize
+    requires { q < all_slots }
+    ensures { result ≡ count_from (full_lattice l st.now) t.now.fine t.now.coarse t.now.fine_values t.now.coarse_values q }
 {
-    slot_taken(l, st, gf, gc, fs, cs, q).count()
+    slot_taken(l, st, t, q).count()
 }
 
 // How many entries each slot has.
-pub fn counts(
-    l: Lattice,
-    st: &[f64],
-    gf: Grid3d,
-    gc: Grid3d,
-    fs: &[usize],
-    cs: &[usize],
-) -> [usize; SLOTS]
-    requires limits { Limits gc }
-    requires values_of { ValuesOf fs.now cs.now }
-    ensures { result ≡ tabulate (count_from (full_lattice l st.now) gf gc fs.now cs.now) all_slots 0 }
+pub fn counts(l: Lattice, st: &[f64], t: &Levels) -> [usize; SLOTS]
+    ensures { result ≡ tabulate (count_from (full_lattice l st.now) t.now.fine t.now.coarse t.now.fine_values t.now.coarse_values) all_slots 0 }
 {
-    array::from_fn(|q| count(l, st, gf, gc, fs, cs, q))
+    array::from_fn(|q| count(l, st, t, q))
 }
 
-// The coarse place of entry e.
-fn place(
-    l: Lattice,
-    st: &[f64],
-    gf: Grid3d,
-    gc: Grid3d,
-    fs: &[usize],
-    cs: &[usize],
-    e: usize,
-) -> usize
-    requires limits { Limits gc }
-    requires values_of { ValuesOf fs.now cs.now }
-    requires e_lt_entry_count { e < entry_count }
-    ensures { result ≡ place_from (full_lattice l st.now) gf gc fs.now cs.now e }
+// The coarse place of an entry, zero for none.
+fn place(s: Option<Share>) -> usize
+    ensures { result ≡ get_or (map share_place (option_to_list s)) 0 0 }
 {
-    match entry(l, st, gf, gc, fs, cs, e) {
+    match s {
         None => 0,
         Some(s) => s.place(),
     }
 }
 
-// The coarse place of each entry.
-pub fn places(
-    l: Lattice,
-    st: &[f64],
-    gf: Grid3d,
-    gc: Grid3d,
-    fs: &[usize],
-    cs: &[usize],
-) -> [usize; ENTRIES]
-    requires limits { Limits gc }
-    requires values_of { ValuesOf fs.now cs.now }
-    ensures { result ≡ tabulate (place_from (full_lattice l st.now) gf gc fs.now cs.now) entry_count 0 }
+// How many entries each slot has, and the coarse place of each entry, laid over zeros: one pass, since both come of what a slot takes.
+fn fill_slots(l: Lattice, st: &[f64], t: &Levels, counts: &mut [usize], places: &mut [usize])
+    requires { (counts.old ≡ replicate all_slots 0) × (places.old ≡ replicate entry_count 0) }
+    ensures counts { counts.new ≡ tabulate (count_from (full_lattice l st.now) t.now.fine t.now.coarse t.now.fine_values t.now.coarse_values) all_slots 0 }
+    ensures places { places.new ≡ tabulate (place_from (full_lattice l st.now) t.now.fine t.now.coarse t.now.fine_values t.now.coarse_values) entry_count 0 }
 {
-    array::from_fn(|e| place(l, st, gf, gc, fs, cs, e))
+    // An index: the slot's number says what it takes, and where its count and its two places stand.
+    for q in 0..SLOTS {
+        let s = slot_taken(l, st, t, q);
+        counts[q] = s.count();
+        places[2 * q] = place(s.get(0));
+        places[2 * q + 1] = place(s.get(1));
+    }
 }
 
 // The fine place where the permittivity of each entry is read.
@@ -358,103 +296,83 @@ pub fn reads(nn: &[usize], ps: &[usize]) -> [usize; ENTRIES]
     array::from_fn(|e| read_place(nn, ps, e))
 }
 
-// The weight of entry e.
+// The weight of an entry of slot q, zero for none.
 fn pull(
     l: Lattice,
     st: &[f64],
-    gf: Grid3d,
-    gc: Grid3d,
-    fs: &[usize],
-    cs: &[usize],
+    t: &Levels,
     xs: &[f64],
     es: &[usize],
-    e: usize,
+    q: usize,
+    s: Option<Share>,
 ) -> C64
-    requires limits { Limits gc }
-    requires values_of { ValuesOf fs.now cs.now }
     requires xs_len { (length xs.now ≡ 1548) × EndsOf es.now }
-    requires e_lt_entry_count { e < entry_count }
-    ensures { result ≡ pull_from (full_lattice l st.now) gf gc fs.now cs.now xs.now es.now e }
+    requires q_lt_all_slots { q < all_slots }
+    ensures { result ≡ get_or (map (share_weight (slot_ratio (full_lattice l st.now) t.now.coarse t.now.fine_values t.now.coarse_values xs.now es.now q)) (option_to_list s)) 0 zero_number }
 {
-    match entry(l, st, gf, gc, fs, cs, e) {
+    match s {
         None => C64::zero(),
-        Some(s) => s.weight(slot_ratio(l, st, gc, fs, cs, xs, es, e / 2)),
+        Some(s) => s.weight(slot_ratio(l, st, t, xs, es, q)),
     }
 }
 
 // The weight of each entry.
-pub fn pulls(
-    l: Lattice,
-    st: &[f64],
-    gf: Grid3d,
-    gc: Grid3d,
-    fs: &[usize],
-    cs: &[usize],
-    xs: &[f64],
-    es: &[usize],
-) -> [f64; ENTRY_DOUBLES]
-    requires limits { Limits gc }
-    requires values_of { ValuesOf fs.now cs.now }
-    requires xs_len { (length xs.now ≡ 1548) × EndsOf es.now }
-    ensures { Numbers (pull_from (full_lattice l st.now) gf gc fs.now cs.now xs.now es.now) entry_count result }
+pub fn pulls(l: Lattice, st: &[f64], t: &Levels, xs: &[f64], es: &[usize]) -> [f64; ENTRY_DOUBLES]
+    requires { (length xs.now ≡ 1548) × EndsOf es.now }
+    ensures { Numbers (pull_from (full_lattice l st.now) t.now.fine t.now.coarse t.now.fine_values t.now.coarse_values xs.now es.now) entry_count result }
 {
     let mut out = [0.0; ENTRY_DOUBLES];
-    // An index: a number is two doubles, and an array made by place would work each number out twice.
-    for e in 0..ENTRIES {
-        numbers::put(&mut out, e, pull(l, st, gf, gc, fs, cs, xs, es, e));
+    // An index: a slot's two numbers are four doubles.
+    for q in 0..SLOTS {
+        let s = slot_taken(l, st, t, q);
+        numbers::put(&mut out, 2 * q, pull(l, st, t, xs, es, q, s.get(0)));
+        numbers::put(&mut out, 2 * q + 1, pull(l, st, t, xs, es, q, s.get(1)));
     }
     out
 }
 
-// ---- all of it. `requires`: the lines of two neighbouring levels.
+// ---- all of it
 
-pub fn levels_of(l: Lattice, st: &[f64], fine: Three, coarse: Three) -> Levels
-    requires { Paired (full_lattice l st.now) fine coarse }
-    ensures { Worked (full_lattice l st.now) fine coarse result.fine result.coarse result.fine_values result.coarse_values }
+pub fn levels_of(pair: &Pair<'_>) -> Levels
+    ensures { Worked (full pair.now.l) pair.now.fine pair.now.coarse result.fine result.coarse result.fine_values result.coarse_values }
 {
     Levels {
-        fine: grid_of(l.grid, fine),
-        coarse: grid_of(l.grid, coarse),
-        fine_values: value_places(fine),
-        coarse_values: value_places(coarse),
+        fine: grid_of(pair.l.lattice.grid, pair.fine),
+        coarse: grid_of(pair.l.lattice.grid, pair.coarse),
+        fine_values: value_places(&pair.fine),
+        coarse_values: value_places(&pair.coarse),
     }
 }
 
-pub fn slots_of(l: Lattice, st: &[f64], fine: Three, coarse: Three) -> Slots
-    requires { Paired (full_lattice l st.now) fine coarse }
-    ensures levels { Worked (full_lattice l st.now) fine coarse result.levels.fine result.levels.coarse result.levels.fine_values result.levels.coarse_values }
-    ensures slots { Slotted (full_lattice l st.now) fine coarse result.levels.fine result.levels.coarse result.places result.counts }
+pub fn slots_of(pair: &Pair<'_>) -> Slots
+    ensures levels { Worked (full pair.now.l) pair.now.fine pair.now.coarse result.levels.fine result.levels.coarse result.levels.fine_values result.levels.coarse_values }
+    ensures slots { Slotted (full pair.now.l) pair.now.fine pair.now.coarse result.levels.fine result.levels.coarse result.places result.counts }
 {
-    let t = levels_of(l, st, fine, coarse);
-    let ns = counts(l, st, t.fine, t.coarse, &t.fine_values, &t.coarse_values);
-    let ps = places(l, st, t.fine, t.coarse, &t.fine_values, &t.coarse_values);
-    Slots {
-        levels: t,
-        counts: ns,
-        places: ps,
-    }
+    let mut s = Slots {
+        levels: levels_of(pair),
+        counts: [0; SLOTS],
+        places: [0; ENTRIES],
+    };
+    fill_slots(
+        pair.l.lattice,
+        pair.l.st,
+        &s.levels,
+        &mut s.counts,
+        &mut s.places,
+    );
+    s
 }
 
-pub fn weighed(l: Lattice, st: &[f64], fine: Three, coarse: Three, s: &Slots) -> Entries
-    requires levels { Worked (full_lattice l st.now) fine coarse s.now.levels.fine s.now.levels.coarse s.now.levels.fine_values s.now.levels.coarse_values }
-    requires slots { Slotted (full_lattice l st.now) fine coarse s.now.levels.fine s.now.levels.coarse s.now.places s.now.counts }
-    ensures { Pulled (full_lattice l st.now) fine coarse s.now.levels.fine s.now.levels.coarse s.now.places s.now.counts result.nodes result.weights }
+pub fn weighed(pair: &Pair<'_>, s: &Slots) -> Entries
+    requires levels { Worked (full pair.now.l) pair.now.fine pair.now.coarse s.now.levels.fine s.now.levels.coarse s.now.levels.fine_values s.now.levels.coarse_values }
+    requires slots { Slotted (full pair.now.l) pair.now.fine pair.now.coarse s.now.levels.fine s.now.levels.coarse s.now.places s.now.counts }
+    ensures { Pulled (full pair.now.l) pair.now.fine pair.now.coarse s.now.levels.fine s.now.levels.coarse s.now.places s.now.counts result.nodes result.weights }
 {
-    let t = &s.levels;
-    let nn = nodes(l, st, fine, coarse);
-    let xs = maps(l, st);
-    let es = last_ends(coarse);
+    let nn = nodes(pair);
+    let xs = maps(&pair.l);
+    let es = last_ends(&pair.coarse);
     Entries {
         nodes: reads(&nn, &s.places),
-        weights: pulls(
-            l,
-            st,
-            t.fine,
-            t.coarse,
-            &t.fine_values,
-            &t.coarse_values,
-            &xs,
-            &es,
-        ),
+        weights: pulls(pair.l.lattice, pair.l.st, &s.levels, &xs, &es),
     }
 }

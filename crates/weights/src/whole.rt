@@ -1,26 +1,20 @@
 // A whole transfer in lent lists: the coarse permittivities, the forward rows and the turned rows.
 
 ghost use Rattle.std.specs.Prelude.{◌≡◌};
-ghost use Rattle.lattice.specs.Lattice.{full_lattice};
-ghost use Rattle.weights.specs.TwoLevels.{two_of};
-ghost use Rattle.weights.specs.Tables.{Paired};
+ghost use Rattle.weights.specs.Pair.{two};
 ghost use Rattle.numbers.specs.Lists.{read_from};
 ghost use Rattle.weights.specs.Whole.{WholeRoom, WholeLeft, whole_finite};
 
+use crate::pair::Pair;
 use crate::{eps, prolongation, tables};
 use lattice::grid;
-use lattice::lattice::Lattice;
-use lattice::levels::Three;
 use numbers::terms::Part;
 use numbers::transpose;
 
 // The transfer between two levels: the coarse permittivities from place ceps on, the fine ones standing from feps on; forward rows from p on, turned
-// rows from t on. Whether every number of it is finite. `requires`: the lines of two neighbouring levels, and room.
+// rows from t on. Whether every number of it is finite. `requires`: room.
 pub fn transfer(
-    l: Lattice,
-    st: &[f64],
-    fine: Three,
-    coarse: Three,
+    pair: &Pair<'_>,
     feps: usize,
     ceps: usize,
     p: Part,
@@ -33,18 +27,17 @@ pub fn transfer(
     tcolumns: &mut [usize],
     tvalues: &mut [f64],
 ) -> bool
-    requires paired { Paired (full_lattice l st.now) fine coarse }
-    requires whole_room { WholeRoom (two_of (full_lattice l st.now) fine coarse) feps ceps p t eps.old starts.old columns.old values.old tstarts.old tcolumns.old tvalues.old }
-    ensures whole_left { WholeLeft (two_of (full_lattice l st.now) fine coarse) feps ceps p t eps.old starts.old columns.old
+    requires whole_room { WholeRoom (two pair.now) feps ceps p t eps.old starts.old columns.old values.old tstarts.old tcolumns.old tvalues.old }
+    ensures whole_left { WholeLeft (two pair.now) feps ceps p t eps.old starts.old columns.old
         values.old tstarts.old tcolumns.old tvalues.old eps.new starts.new columns.new
         values.new tstarts.new tcolumns.new tvalues.new }
-    ensures value { result ≡ whole_finite (two_of (full_lattice l st.now) fine coarse) (read_from eps.old feps) }
+    ensures value { result ≡ whole_finite (two pair.now) (read_from eps.old feps) }
 {
-    let gf = tables::grid_of(l.grid, fine);
-    let gc = tables::grid_of(l.grid, coarse);
-    let a = eps::coarse_eps(l, st, fine, coarse, eps, feps, ceps);
-    prolongation::columns(l, st, fine, coarse, starts, p.s, columns, p.k);
-    let b = prolongation::weights(l, st, fine, coarse, eps, feps, ceps, values, p.k);
+    let gf = tables::grid_of(pair.l.lattice.grid, pair.fine);
+    let gc = tables::grid_of(pair.l.lattice.grid, pair.coarse);
+    let a = eps::coarse_eps(pair, eps, feps, ceps);
+    prolongation::columns(pair, starts, p.s, columns, p.k);
+    let b = prolongation::weights(pair, eps, feps, ceps, values, p.k);
     let n = grid::unknowns(gf);
     let m = grid::unknowns(gc);
     transpose::transpose(

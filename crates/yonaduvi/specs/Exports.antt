@@ -9,6 +9,7 @@ use Rattle.numbers.specs.Lists.{tabulate, laid}
 use Rattle.lattice.specs.Check.{Verdict, accepted, refused}
 use Rattle.lattice.specs.declared.lattice.Edges.{Edges}
 use Rattle.lattice.specs.declared.lattice.Edges.TheVariants.{Pml, Bloch}
+use Rattle.lattice.specs.declared.input.Stretches.{Stretches}
 use Rattle.lattice.specs.declared.lattice.Lattice.{Lattice}
 use Rattle.store.specs.Store.{Store}
 use Rattle.store.specs.Setup.{Input, Result, input_of, full_of, transfers_of}
@@ -63,6 +64,10 @@ lattice_from cells scalars =
 -- the input of a setup but for the permittivities
 abbrev pub input_from : List ℕ → List Float → List Float → List Float → List Float → List Float → List Float → List Float → ℕ → ℕ → Input
 input_from cells scalars xn xh yn yh zn zh choice coarsest = input_of (lattice_from cells scalars) xn xh yn yh zn zh (choice_of choice) coarsest
+
+-- of the six lists as they go through the code
+abbrev pub input_with : List ℕ → List Float → Stretches → ℕ → ℕ → Input
+input_with cells scalars on = input_from cells scalars on.xn.now on.xh.now on.yn.now on.yh.now on.zn.now on.zh.now
 
 -- ---- answers
 

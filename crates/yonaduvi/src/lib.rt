@@ -13,13 +13,14 @@ ghost use Rattle.store.specs.Handed.{weight_terms, operator_row};
 ghost use Rattle.programs.specs.Reading.{machine, fresh, fed_all};
 ghost use Rattle.yonaduvi.specs.Exports.{input_from, CallLeft, ReadLeft, NeedsLeft, cells_from, is_turned, spanned};
 
-use changes::change;
+use lattice::input::Stretches;
 use numbers::C64;
-use programs::{feed, reader};
+use store::lists::{Lists, Numbers, Structure};
 use store::told::Told;
-use store::{Choice, handed, needed, setup};
+use store::{Choice, handed, needed};
 
 pub mod answers;
+pub mod calls;
 pub mod input;
 pub mod rows;
 
@@ -59,17 +60,15 @@ pub extern "C" fn yonaduvi_setup(
         (lent ends.new eps.new starts.new columns.new values.new tstarts.new
         tcolumns.new tvalues.new ostarts.new ocolumns.new ovalues.new scaling.new) }
 {
-    let a = setup::setup(
-        input::lattice_from(cells, scalars),
+    let on = Stretches {
         xn,
         xh,
         yn,
         yh,
         zn,
         zh,
-        given,
-        Choice::from(choice),
-        coarsest,
+    };
+    let mut lists = Lists {
         ends,
         eps,
         starts,
@@ -82,9 +81,10 @@ pub extern "C" fn yonaduvi_setup(
         ocolumns,
         ovalues,
         scaling,
+    };
+    calls::set_up(
+        cells, scalars, &on, given, choice, coarsest, out, &mut lists,
     );
-    let t = Told::from(a);
-    answers::put_two(out, t.number, t.place);
 }
 
 // A change: the permittivity of edge `edge` of level 0 set to (re, im) in a store that a setup with this input left, and what it reaches worked out anew.
@@ -126,33 +126,43 @@ pub extern "C" fn yonaduvi_change(
         (lent ends.now eps.new starts.now columns.now values.new tstarts.now
         tcolumns.now tvalues.new ostarts.now ocolumns.now ovalues.new scaling.new) }
 {
-    let a = change::change(
-        input::lattice_from(cells, scalars),
+    let on = Stretches {
         xn,
         xh,
         yn,
         yh,
         zn,
         zh,
-        Choice::from(choice),
-        coarsest,
-        edge,
-        C64 { re, im },
+    };
+    let fixed = Structure {
         ends,
-        eps,
         starts,
         columns,
-        values,
         tstarts,
         tcolumns,
-        tvalues,
         ostarts,
         ocolumns,
+    };
+    let mut numbers = Numbers {
+        eps,
+        values,
+        tvalues,
         ovalues,
         scaling,
+    };
+    let value = C64 { re, im };
+    calls::change(
+        cells,
+        scalars,
+        &on,
+        choice,
+        coarsest,
+        edge,
+        value,
+        out,
+        &fixed,
+        &mut numbers,
     );
-    let t = Told::from(a);
-    answers::put_two(out, t.number, t.place);
 }
 
 // A file (docs/SPECIFICATION.md, 13): reads its bytes, sets the levels up and changes them as the records say. `limit`: the most cells that are taken. `held`: what
@@ -179,11 +189,7 @@ pub extern "C" fn yonaduvi_read(
     ensures { ReadLeft (fed_all limit (machine fresh held.old (lent ends.old eps.old starts.old columns.old values.old tstarts.old tcolumns.old tvalues.old ostarts.old ocolumns.old ovalues.old scaling.old))
         bytes.now) out.old out.new held.new (lent ends.new eps.new starts.new columns.new values.new tstarts.new tcolumns.new tvalues.new ostarts.new ocolumns.new ovalues.new scaling.new) }
 {
-    let r = feed::feed(
-        reader::fresh(),
-        limit,
-        bytes,
-        held,
+    let mut lists = Lists {
         ends,
         eps,
         starts,
@@ -196,11 +202,8 @@ pub extern "C" fn yonaduvi_read(
         ocolumns,
         ovalues,
         scaling,
-    );
-    match reader::finish(r) {
-        Ok(levels) => answers::put_two(out, 0, levels),
-        Err(t) => answers::put_two(out, t.number, t.place),
-    }
+    };
+    calls::read(bytes, limit, held, out, &mut lists);
 }
 
 // What such a setup needs: in `out` refusals 1 to 4 (of everything but the permittivities), 5 and 8, or 0 and the level count; in `needs` the places of
@@ -226,9 +229,16 @@ pub extern "C" fn yonaduvi_needs(
         zn.now zh.now choice coarsest) out.old needs.old counts.old out.new
         needs.new counts.new }
 {
+    let on = Stretches {
+        xn,
+        xh,
+        yn,
+        yh,
+        zn,
+        zh,
+    };
     let v = input::lattice_from(cells, scalars);
-    let ch = Choice::from(choice);
-    let found = match needed::setup_needs(v, xn, xh, yn, yh, zn, zh, ch, coarsest) {
+    let found = match needed::setup_needs(v, &on, Choice::from(choice), coarsest) {
         Ok(found) => found,
         Err(refusal) => {
             let t = Told::from(refusal);

@@ -7,7 +7,7 @@ pub loop-level-init : goal.loop-level-init
 loop-level-init c = transfers_start
 
 pub same_transfer-requires-clause-level_lt_m : goal.same_transfer-requires-clause-level_lt_m
-same_transfer-requires-clause-level_lt_m c = (c.loop-level-test.true, c.requires.m_bound)
+same_transfer-requires-clause-level_lt_m c = c.loop-level-test.true
 
 pub same_transfer-requires-clause-part_room : goal.same_transfer-requires-clause-part_room
 same_transfer-requires-clause-part_room c = (forward_room c.loop-level.invariant c.loop-level-test.true c.requires.m_in_bounds.0 c.requires.m_in_bounds.1)
@@ -19,19 +19,19 @@ pub returns-then-not-same_transfer : goal.returns-then-not-same_transfer
 returns-then-not-same_transfer c = (omega (arith, c.loop-level-test.true), transfers_bad c.loop-level.invariant c.loop-level-test.true c.same_transfer.ensures (c.if-not-same_transfer.true))
 
 pub behind-o-requires : goal.behind-o-requires
-behind-o-requires c = forward_behind c.loop-level.invariant c.loop-level-test.true c.same_transfer.ensures (c.if-not-same_transfer.false) c.requires.limits c.requires.m_bound c.level_edges.ensures (forward_room c.loop-level.invariant c.loop-level-test.true c.requires.m_in_bounds.0 c.requires.m_in_bounds.1)
+behind-o-requires c = forward_behind c.loop-level.invariant c.loop-level-test.true c.same_transfer.ensures (c.if-not-same_transfer.false) c.args.h.now.l.limits c.args.h.now.few c.edges.ensures (forward_room c.loop-level.invariant c.loop-level-test.true c.requires.m_in_bounds.0 c.requires.m_in_bounds.1)
 
 pub overflow_add-level : goal.overflow_add-level
-overflow_add-level c = omega (arith, c.loop-level-test.true, c.requires.m_bound)
+overflow_add-level c = omega (arith, c.loop-level-test.true, c.args.h.now.few)
 
 pub behind-t-requires : goal.behind-t-requires
-behind-t-requires c = turned_behind c.loop-level.invariant c.loop-level-test.true c.same_transfer.ensures (c.if-not-same_transfer.false) c.requires.limits c.requires.m_bound (next_edges_lem _ _ c.level_edges-in-loop-level.ensures) (turned_room_lem c.loop-level.invariant c.loop-level-test.true c.requires.m_in_bounds_2.0 c.requires.m_in_bounds_2.1)
+behind-t-requires c = turned_behind c.loop-level.invariant c.loop-level-test.true c.same_transfer.ensures (c.if-not-same_transfer.false) c.args.h.now.l.limits c.args.h.now.few (next_edges_lem _ _ c.edges-in-loop-level.ensures) (turned_room_lem c.loop-level.invariant c.loop-level-test.true c.requires.m_in_bounds_2.0 c.requires.m_in_bounds_2.1)
 
 pub loop-level-smaller : goal.loop-level-smaller
 loop-level-smaller c = omega (arith, c.loop-level-test.true)
 
 pub loop-level-preserved : goal.loop-level-preserved
-loop-level-preserved c = transfers_turn c.loop-level.invariant c.loop-level-test.true c.same_transfer.ensures (c.if-not-same_transfer.false) c.level_edges.ensures (next_edges_lem _ _ c.level_edges-in-loop-level.ensures) c.behind-o.ensures c.behind-t.ensures
+loop-level-preserved c = transfers_turn c.loop-level.invariant c.loop-level-test.true c.same_transfer.ensures (c.if-not-same_transfer.false) c.edges.ensures (next_edges_lem _ _ c.edges-in-loop-level.ensures) c.behind-o.ensures c.behind-t.ensures
 
 pub returns : goal.returns
-returns c = let z : c.args.m + 1 ≡ suc c.args.m = omega arith in rw z at (transfers_end c.loop-level.invariant c.loop-level-test.false)
+returns c = let z : c.args.h.now.m + 1 ≡ suc c.args.h.now.m = omega arith in rw z at (transfers_end c.loop-level.invariant c.loop-level-test.false)

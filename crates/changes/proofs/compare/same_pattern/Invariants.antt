@@ -1,4 +1,4 @@
--- `store::compare::same_pattern` meets its contract. The first r rows stand in the lists.
+-- `changes::compare::same_pattern` meets its contract. The first r rows stand in the lists.
 -- Assumes nothing.
 use Rattle.store.proofs.MatchLaws.{Going}
 use mathlib.Core.Path.{◌≡◌}

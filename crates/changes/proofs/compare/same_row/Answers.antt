@@ -1,4 +1,4 @@
--- `store::compare::same_row` meets its contract. The start first, then the columns.
+-- `changes::compare::same_row` meets its contract. The start first, then the columns.
 -- Assumes nothing.
 use mathlib.Core.Path.{refl}
 use borrow.Author.Tests.{eq-eqb, ne_eqb}

@@ -1,4 +1,4 @@
--- `store::compare::same_term` meets its contract. The place is tested, then the row, and then it goes on by one.
+-- `changes::compare::same_term` meets its contract. The place is tested, then the row, and then it goes on by one.
 -- Assumes nothing.
 use native.Mathlib.Omega.{arith}
 use Rattle.store.proofs.TurnLaws.{term_bad, term_there}

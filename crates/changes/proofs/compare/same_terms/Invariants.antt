@@ -1,4 +1,4 @@
--- `store::compare::same_terms` meets its contract. The terms of the first columns have been found.
+-- `changes::compare::same_terms` meets its contract. The terms of the first columns have been found.
 -- Assumes nothing.
 use Prim.Native.Nat.{◌≤◌}
 use mathlib.Core.Bool.{true}

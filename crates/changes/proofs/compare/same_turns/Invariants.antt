@@ -1,4 +1,4 @@
--- `store::compare::same_turns` meets its contract. The terms of the first r rows have been found.
+-- `changes::compare::same_turns` meets its contract. The terms of the first r rows have been found.
 -- Assumes nothing.
 use Prim.Native.Nat.{◌≤◌}
 use mathlib.Core.Bool.{true}

@@ -1,4 +1,4 @@
--- `store::compare::sole_operator` meets its contract. Level 0 is stored where it is the only one.
+-- `changes::compare::sole_operator` meets its contract. Level 0 is stored where it is the only one.
 -- Assumes nothing.
 use Rattle.std.proofs.Common.{◌≡◌, suc, subst}
 use Rattle.store.specs.Compare.{Lowest}
@@ -11,13 +11,13 @@ pub same_operator-requires-clause-u_len : goal.same_operator-requires-clause-u_l
 same_operator-requires-clause-u_len c = relations_long _ c.base_relations-u.ensures
 
 pub same_operator-requires-clause-by_index : goal.same_operator-requires-clause-by_index
-same_operator-requires-clause-by_index c = sole_most _ c.requires.limits _ c.requires.m_value c.args.starts.now c.args.columns.now c.requires.m_in_bounds.0 c.requires.m_in_bounds.1 c.base_relations-u.ensures
+same_operator-requires-clause-by_index c = sole_most _ c.args.h.now.l.limits _ c.requires.m_value c.args.starts.now c.args.columns.now c.requires.m_in_bounds.0 c.requires.m_in_bounds.1 c.base_relations-u.ensures
 
 pub same_operator-requires-clause-part_room : goal.same_operator-requires-clause-part_room
-same_operator-requires-clause-part_room c = sole_room _ c.requires.limits _ c.requires.m_value c.args.starts.now c.args.columns.now c.requires.m_in_bounds.0 c.requires.m_in_bounds.1 c.base_relations-u.ensures
+same_operator-requires-clause-part_room c = sole_room _ c.args.h.now.l.limits _ c.requires.m_value c.args.starts.now c.args.columns.now c.requires.m_in_bounds.0 c.requires.m_in_bounds.1 c.base_relations-u.ensures
 
 pub returns-then-same_operator : goal.returns-then-same_operator
-returns-then-same_operator c = let z : 1 ≡ suc c.args.m = omega (arith, c.requires.m_value) in subst (Lowest _ _) z (sole_good _ c.requires.limits _ c.requires.m_value c.args.starts.now c.args.columns.now c.requires.m_in_bounds.0 c.requires.m_in_bounds.1 c.base_relations-u.ensures c.same_operator.ensures c.if-same_operator.true)
+returns-then-same_operator c = let z : 1 ≡ suc c.args.h.now.m = omega (arith, c.requires.m_value) in subst (Lowest _ _) z (sole_good _ c.args.h.now.l.limits _ c.requires.m_value c.args.starts.now c.args.columns.now c.requires.m_in_bounds.0 c.requires.m_in_bounds.1 c.base_relations-u.ensures c.same_operator.ensures c.if-same_operator.true)
 
 pub returns : goal.returns
-returns c = (omega arith, sole_bad _ c.requires.limits _ c.requires.m_value c.args.starts.now c.args.columns.now c.requires.m_in_bounds.0 c.requires.m_in_bounds.1 c.base_relations-u.ensures c.same_operator.ensures c.if-same_operator.false)
+returns c = (omega arith, sole_bad _ c.args.h.now.l.limits _ c.requires.m_value c.args.starts.now c.args.columns.now c.requires.m_in_bounds.0 c.requires.m_in_bounds.1 c.base_relations-u.ensures c.same_operator.ensures c.if-same_operator.false)

@@ -3,8 +3,8 @@ use Rattle.numbers.proofs.TermLaws.{wrote_append}
 use Rattle.lattice.proofs.RowLaws.{with_in}
 use Rattle.lattice.proofs.curls.ahead.Goals as goal
 
-pub neighbour-to-requires-clause-inside : goal.neighbour-to-requires-clause-inside
-neighbour-to-requires-clause-inside c = with_in c.requires.inside c.requires.field_bound c.with_component.ensures
+pub neighbour-to-requires : goal.neighbour-to-requires
+neighbour-to-requires c = with_in c.requires.inside c.requires.field_bound c.with_component.ensures
 
 pub returns : goal.returns
 unfolding ahead

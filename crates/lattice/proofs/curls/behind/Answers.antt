@@ -4,8 +4,8 @@ use Rattle.numbers.proofs.TermLaws.{wrote_append, wrote_most}
 use Rattle.lattice.proofs.RowLaws.{with_in, here_most}
 use Rattle.lattice.proofs.curls.behind.Goals as goal
 
-pub neighbour-to-requires-clause-inside : goal.neighbour-to-requires-clause-inside
-neighbour-to-requires-clause-inside c = with_in c.requires.inside c.requires.field_bound c.with_component.ensures
+pub neighbour-to-requires : goal.neighbour-to-requires
+neighbour-to-requires c = with_in c.requires.inside c.requires.field_bound c.with_component.ensures
 
 pub push_to-requires : goal.push_to-requires
 push_to-requires c =

@@ -7,7 +7,7 @@ use Rattle.lattice.proofs.RowLaws.{at_in, ahead_most}
 use Rattle.lattice.proofs.curls.curl_e.Goals as goal
 
 pub ahead-k-requires-clause-inside : goal.ahead-k-requires-clause-inside
-ahead-k-requires-clause-inside c = at_in c.requires.limits c.requires.r_bound c.at-p.ensures
+ahead-k-requires-clause-inside c = at_in c.args.l.now.limits c.requires c.at-p.ensures
 
 pub ahead-k-requires-clause-along_bound : goal.ahead-k-requires-clause-along_bound
 ahead-k-requires-clause-along_bound c = rw c.next_axis-b.ensures (next_low _)
@@ -16,7 +16,7 @@ pub ahead-k-requires-clause-field_bound : goal.ahead-k-requires-clause-field_bou
 ahead-k-requires-clause-field_bound c = rw c.last_axis-c.ensures (last_low _)
 
 pub ahead-requires-clause-inside : goal.ahead-requires-clause-inside
-ahead-requires-clause-inside c = at_in c.requires.limits c.requires.r_bound c.at-p.ensures
+ahead-requires-clause-inside c = at_in c.args.l.now.limits c.requires c.at-p.ensures
 
 pub ahead-requires-clause-along_bound : goal.ahead-requires-clause-along_bound
 ahead-requires-clause-along_bound c = rw c.last_axis-c.ensures (last_low _)

@@ -7,7 +7,7 @@ use Rattle.lattice.proofs.RowLaws.{at_in, behind_most}
 use Rattle.lattice.proofs.curls.curl_h.Goals as goal
 
 pub behind-k-requires-clause-inside : goal.behind-k-requires-clause-inside
-behind-k-requires-clause-inside c = at_in c.requires.limits c.requires.r_bound c.at-p.ensures
+behind-k-requires-clause-inside c = at_in c.args.l.now.limits c.requires c.at-p.ensures
 
 pub behind-k-requires-clause-along_bound : goal.behind-k-requires-clause-along_bound
 behind-k-requires-clause-along_bound c = rw c.next_axis-b.ensures (next_low _)
@@ -16,7 +16,7 @@ pub behind-k-requires-clause-field_bound : goal.behind-k-requires-clause-field_b
 behind-k-requires-clause-field_bound c = rw c.last_axis-c.ensures (last_low _)
 
 pub behind-requires-clause-inside : goal.behind-requires-clause-inside
-behind-requires-clause-inside c = at_in c.requires.limits c.requires.r_bound c.at-p.ensures
+behind-requires-clause-inside c = at_in c.args.l.now.limits c.requires c.at-p.ensures
 
 pub behind-requires-clause-along_bound : goal.behind-requires-clause-along_bound
 behind-requires-clause-along_bound c = rw c.last_axis-c.ensures (last_low _)

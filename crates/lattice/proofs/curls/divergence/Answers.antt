@@ -5,16 +5,16 @@ use Rattle.lattice.proofs.RowLaws.{at_in, behind_most}
 use Rattle.lattice.proofs.curls.divergence.Goals as goal
 
 pub behind-k-requires-clause-inside : goal.behind-k-requires-clause-inside
-behind-k-requires-clause-inside c = at_in c.requires.limits c.requires.q_bound c.at-p.ensures
+behind-k-requires-clause-inside c = at_in c.args.l.now.limits c.requires c.at-p.ensures
 
 pub behind-k1-requires-clause-inside : goal.behind-k1-requires-clause-inside
-behind-k1-requires-clause-inside c = at_in c.requires.limits c.requires.q_bound c.at-p.ensures
+behind-k1-requires-clause-inside c = at_in c.args.l.now.limits c.requires c.at-p.ensures
 
 pub behind-k1-requires-clause-k_bound : goal.behind-k1-requires-clause-k_bound
 behind-k1-requires-clause-k_bound c = omega (arith, wrote_most c.behind-k.ensures (behind_most _ _ _ _ _))
 
 pub behind-requires-clause-inside : goal.behind-requires-clause-inside
-behind-requires-clause-inside c = at_in c.requires.limits c.requires.q_bound c.at-p.ensures
+behind-requires-clause-inside c = at_in c.args.l.now.limits c.requires c.at-p.ensures
 
 pub behind-requires-clause-k_bound : goal.behind-requires-clause-k_bound
 behind-requires-clause-k_bound c = omega (

@@ -5,18 +5,18 @@ use Rattle.lattice.proofs.RowLaws.{at_in, with_in, free_most, to_most}
 use Rattle.lattice.proofs.curls.gradient.Goals as goal
 
 pub half_weight-w-requires-clause-inside : goal.half_weight-w-requires-clause-inside
-half_weight-w-requires-clause-inside c = let i = at_in c.requires.limits c.requires.r_bound c.at-p.ensures in
+half_weight-w-requires-clause-inside c = let i = at_in c.args.l.now.limits c.requires c.at-p.ensures in
     i
 
 pub half_weight-w-requires-clause-axis_bound : goal.half_weight-w-requires-clause-axis_bound
-half_weight-w-requires-clause-axis_bound c = let i = at_in c.requires.limits c.requires.r_bound c.at-p.ensures in
+half_weight-w-requires-clause-axis_bound c = let i = at_in c.args.l.now.limits c.requires c.at-p.ensures in
     i.c_in
 
-pub neighbour-to-requires-clause-inside : goal.neighbour-to-requires-clause-inside
-neighbour-to-requires-clause-inside c = with_in (at_in c.requires.limits c.requires.r_bound c.at-p.ensures) (omega arith) c.with_component.ensures
+pub neighbour-to-requires : goal.neighbour-to-requires
+neighbour-to-requires c = with_in (at_in c.args.l.now.limits c.requires c.at-p.ensures) (omega arith) c.with_component.ensures
 
 pub push_free_here-requires-clause-inside : goal.push_free_here-requires-clause-inside
-push_free_here-requires-clause-inside c = at_in c.requires.limits c.requires.r_bound c.at-p.ensures
+push_free_here-requires-clause-inside c = at_in c.args.l.now.limits c.requires c.at-p.ensures
 
 pub push_free_here-requires-clause-k_bound : goal.push_free_here-requires-clause-k_bound
 push_free_here-requires-clause-k_bound c = omega (arith, wrote_most c.push_free_node-k.ensures (free_most _ _ (to_most c.neighbour-to.result c.half_weight-w.result)))

@@ -13,8 +13,8 @@ stretches-st-requires-clause-lengths c = (stretches_sound c.args.v _ _ _ _ _ _ (
 pub stretches-st-requires-clause-lengths_2 : goal.stretches-st-requires-clause-lengths_2
 stretches-st-requires-clause-lengths_2 c = (stretches_sound c.args.v _ _ _ _ _ _ (told c.in_default.ensures)).2
 
-pub join_lines-found-requires : goal.join_lines-found-requires
-join_lines-found-requires c = (stretches_sound c.args.v _ _ _ _ _ _ (told c.in_default.ensures)).0
+pub invariant_of-l : goal.invariant_of-l
+invariant_of-l c = record { limits = (stretches_sound c.args.v _ _ _ _ _ _ (told c.in_default.ensures)).0 }
 
 pub returns : goal.returns
 returns c = answered_found _ _ _ _ _ _ _ _ c.join_lines-found.result c.in_default.ensures c.stretches-st.ensures.1 c.join_lines-found.ensures c.ok_or.ensures.value

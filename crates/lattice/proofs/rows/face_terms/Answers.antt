@@ -1,5 +1,5 @@
-use Rattle.std.proofs.Common.{rules, sym, length-take-le}
-use Rattle.lattice.specs.Lattice.{full_lattice}
+use Rattle.std.proofs.Common.{rules, sym, length-take, length-take-le, arith}
+use Rattle.lattice.specs.Sound.{full}
 use Rattle.lattice.specs.Rows.{face_term, face_terms}
 use Rattle.lattice.proofs.RowLaws.{face_term_most, curl_e_held, terms_held}
 use Rattle.lattice.proofs.rows.face_terms.Goals as goal
@@ -13,7 +13,7 @@ slice_bounds-push_each-end c = sym (length-take-le _ _ (curl_e_held _ _ c.curl_e
 pub push_each-requires-clause-callable : goal.push_each-requires-clause-callable
 push_each-requires-clause-callable c =
     let few = (curl_e_held _ _ c.curl_e-n.ensures).most in
-    (face_term (full_lattice c.args.l c.args.st.now) c.args.wh, 1, search rules, face_term_most _ _, search rules)
+    (face_term (full c.args.l.now) c.args.wh, 1, search rules, face_term_most _ _, λ m k cs xs b h. omega (arith, few, length-take c.curl_e-n.result c.curl_e-n.new.columns, c.requires.k_bound, b, h))
 
 pub returns : goal.returns
 unfolding face_terms

@@ -10,7 +10,7 @@ pub slice_bounds-mean_free-end : goal.slice_bounds-mean_free-end
 slice_bounds-mean_free-end c = sym (length-take-le _ _ (divergence_held _ _ c.divergence-n.ensures).columns_room)
 
 pub mean_free-requires-clause-below : goal.mean_free-requires-clause-below
-mean_free-requires-clause-below c = below_held (divergence_held _ _ c.divergence-n.ensures) (low_divergence _ c.requires.limits _ c.requires.q_bound)
+mean_free-requires-clause-below c = below_held (divergence_held _ _ c.divergence-n.ensures) (low_divergence _ c.args.l.now.limits _ c.requires.q_bound)
 
 pub returns : goal.returns
 returns c = c.mean_free.ensures ∙ mean_held _ _ _ (divergence_held _ _ c.divergence-n.ensures)

@@ -1,20 +1,14 @@
-use mathlib.Core.Path.{ap, sym, ◌∙◌}
+use mathlib.Core.Path.{refl, ◌∙◌}
+use native.Mathlib.Omega.{arith}
+use Rattle.std.proofs.Common.{rules, tests}
+use Rattle.std.proofs.lemmas.Iterator.{YieldsList-from_range}
+use Rattle.std.proofs.lemmas.Iterator.Search.{all_from_yields_List}
 use Rattle.numbers.specs.Complex.{finite}
-use Rattle.numbers.proofs.ListLaws.{seen_start, seen_turn, seen_stop, seen_end}
+use Rattle.numbers.specs.Places.{number_at}
+use Rattle.numbers.proofs.ListLaws.{finite_along}
 use Rattle.numbers.proofs.lists.finite_numbers.Goals as goal
 
-pub loop-m-init : goal.loop-m-init
-loop-m-init c = seen_start
-
-pub returns-then-not-is_finite : goal.returns-then-not-is_finite
-returns-then-not-is_finite c =
-    seen_stop c.loop-m.invariant c.loop-m-test.true
-    (ap finite (sym c.get.ensures) ∙ sym c.is_finite.ensures ∙ c.if-not-is_finite.true)
-
-pub loop-m-preserved : goal.loop-m-preserved
-loop-m-preserved c =
-    seen_turn c.loop-m.invariant c.loop-m-test.true
-    (ap finite (sym c.get.ensures) ∙ sym c.is_finite.ensures ∙ c.if-not-is_finite.false)
-
 pub returns : goal.returns
-returns c = seen_end c.loop-m.invariant c.loop-m-test.false
+returns c =
+    all_from_yields_List (λ m. finite (number_at c.args.list.now m)) _ _ c.all.result c.all.ensures.ran (YieldsList-from_range _ _ c.args.n refl (omega arith)) (λ x b q k. search (rules, tests))
+    ∙ finite_along _ _ _

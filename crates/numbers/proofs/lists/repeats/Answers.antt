@@ -1,26 +1,16 @@
-use Prim.Native.Nat.{◌+◌}
-use mathlib.Core.Path.{ap, ◌∙◌}
+use mathlib.Core.Path.{refl, ◌∙◌}
+use Prim.Native.Nat.{◌+◌, ◌-◌}
+use lib.ListN.{get_or, take, drop}
 use native.Mathlib.Omega.{arith}
-use lib.ListN.{get_or}
-use Rattle.numbers.specs.Lists.{contains}
-use Rattle.numbers.proofs.RepeatLaws.{comparing_start, comparing_hit, comparing_turn, comparing_end}
-use Rattle.numbers.proofs.SliceLaws.{any_contains, between_places}
+use Rattle.std.proofs.Common.{rules, tests}
+use Rattle.std.specs.Prelude.{nat_eq}
+use Rattle.std.specs.List.{list_any}
+use Rattle.std.proofs.lemmas.Iterator.{YieldsList-from_range}
+use Rattle.std.proofs.lemmas.Iterator.Search.{any_from_yields_List}
+use Rattle.numbers.proofs.RepeatLaws.{repeats_along}
 use Rattle.numbers.proofs.lists.repeats.Goals as goal
 
-pub loop-m-init : goal.loop-m-init
-loop-m-init c = comparing_start
-
-pub returns-then-contains : goal.returns-then-contains
-returns-then-contains c =
-    comparing_hit c.loop-m.invariant c.loop-m-test.true
-    (c.contains.ensures.value ∙ (any_contains _ _ ∙ ap (contains (get_or c.args.columns.now c.loop-m.m 0)) (between_places c.args.columns.now (c.loop-m.m + 1) c.args.n (omega arith) (omega arith))))
-    c.if-contains.true
-
-pub loop-m-preserved : goal.loop-m-preserved
-loop-m-preserved c =
-    comparing_turn c.loop-m.invariant c.loop-m-test.true
-    (c.contains.ensures.value ∙ (any_contains _ _ ∙ ap (contains (get_or c.args.columns.now c.loop-m.m 0)) (between_places c.args.columns.now (c.loop-m.m + 1) c.args.n (omega arith) (omega arith))))
-    c.if-contains.false
-
 pub returns : goal.returns
-returns c = comparing_end c.loop-m.invariant c.loop-m-test.false
+returns c =
+    any_from_yields_List (λ m. list_any (λ y. nat_eq y (get_or c.args.columns.now m 0)) (take (c.args.n - (m + 1)) (drop (m + 1) c.args.columns.now))) _ _ c.any.result c.any.ensures.ran (YieldsList-from_range _ _ c.args.n refl (omega arith)) (λ x b q k. search (rules, tests))
+    ∙ repeats_along _ _ c.requires

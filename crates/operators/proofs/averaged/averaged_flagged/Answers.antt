@@ -5,22 +5,22 @@ use Rattle.operators.proofs.AveragedRow.{coarse_limits, edge, edge_inside, edge_
 use Rattle.operators.proofs.averaged.averaged_flagged.Goals as goal
 
 pub at-p-requires : goal.at-p-requires
-at-p-requires c = coarse_limits c.requires.paired_lines c.grid_of.ensures
+at-p-requires c = coarse_limits c.args.nested.now.lines c.grid_of.ensures
 
 pub hats_across-k-requires-clause-inside : goal.hats_across-k-requires-clause-inside
-hats_across-k-requires-clause-inside c = edge_inside (edge c.requires.paired_lines c.grid_of.ensures c.requires.nn_value c.grid_of-gf.ensures c.at-p.ensures c.requires.r_bound)
+hats_across-k-requires-clause-inside c = edge_inside (edge c.args.nested.now.lines c.grid_of.ensures c.requires.nn_value c.grid_of-gf.ensures c.at-p.ensures c.requires.r_bound)
 
 pub cell_of-c-requires : goal.cell_of-c-requires
-cell_of-c-requires c = edge_ready (edge c.requires.paired_lines c.grid_of.ensures c.requires.nn_value c.grid_of-gf.ensures c.at-p.ensures c.requires.r_bound)
+cell_of-c-requires c = edge_ready (edge c.args.nested.now.lines c.grid_of.ensures c.requires.nn_value c.grid_of-gf.ensures c.at-p.ensures c.requires.r_bound)
 
 pub any_over-requires-clause-flags_in_bounds : goal.any_over-requires-clause-flags_in_bounds
-any_over-requires-clause-flags_in_bounds c = omega (arith, cell_unknowns (edge c.requires.paired_lines c.grid_of.ensures c.requires.nn_value c.grid_of-gf.ensures c.at-p.ensures c.requires.r_bound) c.cell_of-c.ensures.1, c.requires.coarse_in_bounds)
+any_over-requires-clause-flags_in_bounds c = omega (arith, cell_unknowns (edge c.args.nested.now.lines c.grid_of.ensures c.requires.nn_value c.grid_of-gf.ensures c.at-p.ensures c.requires.r_bound) c.cell_of-c.ensures.1, c.requires.coarse_in_bounds)
 
 pub any_over-requires-clause-next_below : goal.any_over-requires-clause-next_below
-any_over-requires-clause-next_below c = next_below (edge c.requires.paired_lines c.grid_of.ensures c.requires.nn_value c.grid_of-gf.ensures c.at-p.ensures c.requires.r_bound) c.cell_of-c.ensures.1 c.hats_across-k.ensures
+any_over-requires-clause-next_below c = next_below (edge c.args.nested.now.lines c.grid_of.ensures c.requires.nn_value c.grid_of-gf.ensures c.at-p.ensures c.requires.r_bound) c.cell_of-c.ensures.1 c.hats_across-k.ensures
 
 pub any_over-requires-clause-last_below : goal.any_over-requires-clause-last_below
-any_over-requires-clause-last_below c = last_below (edge c.requires.paired_lines c.grid_of.ensures c.requires.nn_value c.grid_of-gf.ensures c.at-p.ensures c.requires.r_bound) c.cell_of-c.ensures.1 c.hats_across-k.ensures
+any_over-requires-clause-last_below c = last_below (edge c.args.nested.now.lines c.grid_of.ensures c.requires.nn_value c.grid_of-gf.ensures c.at-p.ensures c.requires.r_bound) c.cell_of-c.ensures.1 c.hats_across-k.ensures
 
 pub returns : goal.returns
-returns c = edge_flagged (edge c.requires.paired_lines c.grid_of.ensures c.requires.nn_value c.grid_of-gf.ensures c.at-p.ensures c.requires.r_bound) c.cell_of-c.ensures.1 c.hats_across-k.ensures _ c.any_over.ensures
+returns c = edge_flagged (edge c.args.nested.now.lines c.grid_of.ensures c.requires.nn_value c.grid_of-gf.ensures c.at-p.ensures c.requires.r_bound) c.cell_of-c.ensures.1 c.hats_across-k.ensures _ c.any_over.ensures

@@ -11,4 +11,4 @@ axis_hats-requires-3-clause-hats_len c = axis_long c.axis_hats-2.ensures (axis_l
 
 pub returns : goal.returns
 returns c =
-    hats_three c.requires.paired_lines c.requires.hats_len c.is_wall-wx.ensures c.is_wall-wy.ensures c.is_wall-wz.ensures c.axis_hats.ensures c.axis_hats-2.ensures c.axis_hats-3.ensures
+    hats_three c.args.nested.now.lines c.requires.hats_len c.is_wall-wx.ensures c.is_wall-wy.ensures c.is_wall-wz.ensures c.axis_hats.ensures c.axis_hats-2.ensures c.axis_hats-3.ensures

@@ -1,9 +1,11 @@
 -- `operators::compose::compose` meets its contract. The invariant: the first c words are filled.
 -- Assumes nothing.
 use Prim.Native.Nat.{◌≤◌}
-use Rattle.operators.specs.Compose.{words_at, composed_word}
+use lib.ListN.{length}
+use Rattle.numbers.specs.Lists.{entry_at}
+use Rattle.operators.specs.Compose.{composed_word}
 use Rattle.operators.proofs.TableLaws.{Filling}
 use Rattle.operators.proofs.compose.compose.Given as goal
 
 abbrev pub invariant-loop-c : goal.invariant-loop-c
-invariant-loop-c l = (l.c ≤ l.m) × Filling (composed_word l.n (words_at l.f l.fat) (words_at l.r l.rat) (words_at l.g l.gat)) l.m l.initial.out l.at l.c l.out
+invariant-loop-c l = (l.c ≤ l.m) × Filling (composed_word (length l.f) (entry_at l.f) (entry_at l.r) (entry_at l.g)) l.m l.initial.out l.at l.c l.out

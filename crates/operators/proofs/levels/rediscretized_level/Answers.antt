@@ -5,33 +5,31 @@ use Rattle.operators.proofs.RediscretizedLists.{lines_nested, coarse_tame, room_
 use Rattle.operators.proofs.RediscretizedLevel.{both_lines, level_left}
 use Rattle.operators.proofs.levels.rediscretized_level.Goals as goal
 
-pub averaged_eps-known-requires-clause-paired_lines :
-    goal.averaged_eps-known-requires-clause-paired_lines
-averaged_eps-known-requires-clause-paired_lines c = lines_nested _ _ c.requires.given.limits (both_lines c.requires.given)
+pub invariant_of-nested : goal.invariant_of-nested
+invariant_of-nested c = record { lines = lines_nested _ _ c.requires.given.limits (both_lines c.requires.given) }
 
-pub averaged_eps-known-requires-clause-chain_room :
-    goal.averaged_eps-known-requires-clause-chain_room
-averaged_eps-known-requires-clause-chain_room c =
-    room_nested _ _ c.requires.given.limits (both_lines c.requires.given) c.requires.given.chain
+pub averaged_eps-known-requires : goal.averaged_eps-known-requires
+averaged_eps-known-requires c =
+    record { chain_room = room_nested _ _ c.requires.given.limits (both_lines c.requires.given) c.requires.given.chain }
 
 pub rediscretized_lattice-lc-requires-clause-held_three :
     goal.rediscretized_lattice-lc-requires-clause-held_three
 rediscretized_lattice-lc-requires-clause-held_three c =
-    (lines_nested _ _ c.requires.given.limits (both_lines c.requires.given)).paired.coarse_held
+    c.args.pair.now.paired.coarse_held
 
 pub rediscretized_stretches-sc-requires-clause-held_three :
     goal.rediscretized_stretches-sc-requires-clause-held_three
 rediscretized_stretches-sc-requires-clause-held_three c =
-    (lines_nested _ _ c.requires.given.limits (both_lines c.requires.given)).paired.coarse_held
+    c.args.pair.now.paired.coarse_held
 
 pub rediscretized_stretches-sc-requires-clause-tame :
     goal.rediscretized_stretches-sc-requires-clause-tame
 rediscretized_stretches-sc-requires-clause-tame c =
     coarse_tame _ _ c.requires.given.limits (both_lines c.requires.given)
 
-pub assembled-sound-requires-clause-limits : goal.assembled-sound-requires-clause-limits
-assembled-sound-requires-clause-limits c = let a = lattice_asked _ _ c.requires.given.limits (both_lines c.requires.given) c.requires.given.chain c.averaged_eps-known.ensures.eps_after (own_lattice _ _ _ _ c.rediscretized_lattice-lc.ensures c.rediscretized_stretches-sc.ensures.result_value) in
-    a.0
+pub invariant_of-next : goal.invariant_of-next
+invariant_of-next c = let a = lattice_asked _ _ c.requires.given.limits (both_lines c.requires.given) c.requires.given.chain c.averaged_eps-known.ensures.eps_after (own_lattice _ _ _ _ c.rediscretized_lattice-lc.ensures c.rediscretized_stretches-sc.ensures.result_value) in
+    record { limits = a.0 }
 
 pub assembled-sound-requires-clause-from_bound : goal.assembled-sound-requires-clause-from_bound
 assembled-sound-requires-clause-from_bound c = let a = lattice_asked _ _ c.requires.given.limits (both_lines c.requires.given) c.requires.given.chain c.averaged_eps-known.ensures.eps_after (own_lattice _ _ _ _ c.rediscretized_lattice-lc.ensures c.rediscretized_stretches-sc.ensures.result_value) in

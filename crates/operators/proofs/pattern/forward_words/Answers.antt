@@ -1,17 +1,8 @@
-use mathlib.Core.Path.{◌≡◌}
-use native.Mathlib.Omega.{arith}
-use Rattle.numbers.proofs.TabulateLaws.{filled_start, filled_turn, filled_whole}
-use Rattle.operators.proofs.LevelTableLaws.{slot_word_no_lem}
+use Rattle.std.proofs.Common.{rules}
+use Rattle.weights.proofs.TableLaws.{made_tabulate}
+use Rattle.operators.specs.Levels.{slot_no, slot_word_no}
 use Rattle.operators.proofs.pattern.forward_words.Goals as goal
 
-pub loop-e-init : goal.loop-e-init
-loop-e-init c = (omega arith, filled_start)
-
-pub loop-e-preserved : goal.loop-e-preserved
-loop-e-preserved c = (omega arith, filled_turn c.loop-e.invariant.1 c.loop-e-test.true (slot_word_no_lem _ _ _ c.forward_word.ensures))
-
 pub returns : goal.returns
-returns c =
-    let l = c.loop-e in
-    let e : l.e ≡ 384 = omega arith in
-    filled_whole (rw e at l.invariant.1)
+unfolding slot_word_no slot_no
+returns c = made_tabulate (slot_word_no c.args.ps.now c.args.ns.now) 384 0 c.from_fn.result c.from_fn.ensures.items (λ i y q b k. search rules)

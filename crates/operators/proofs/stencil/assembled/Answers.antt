@@ -7,7 +7,7 @@ use Rattle.operators.proofs.stencil.assembled.Goals.{then-finite, else-finite}
 use Rattle.operators.proofs.stencil.assembled.Goals as goal
 
 pub loop-r-init : goal.loop-r-init
-loop-r-init c = (omega (arith, unknowns_most c.requires.limits, c.unknowns-n.ensures), assembling_start)
+loop-r-init c = (omega (arith, unknowns_most c.args.l.now.limits, c.unknowns-n.ensures), assembling_start)
 
 pub lay_row-row-requires-clause-k_bound : goal.lay_row-row-requires-clause-k_bound
 lay_row-row-requires-clause-k_bound c = let u = c.loop-r.invariant in

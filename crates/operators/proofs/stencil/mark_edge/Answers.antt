@@ -7,4 +7,4 @@ pub returns-then-fixed : goal.returns-then-fixed
 returns-then-fixed c = edge_fixed _ _ c.fixed.ensures c.if-fixed.true
 
 pub returns : goal.returns
-returns c = edge_free _ _ c.fixed.ensures c.if-fixed.false c.requires.c_in_bounds
+returns c = edge_free _ _ c.fixed.ensures c.if-fixed.false c.requires

@@ -19,14 +19,14 @@ slice_bounds-c-items-end c = sym (front_long c.divergence-n.new.columns c.diverg
 pub loop-c-init : goal.loop-c-init
 loop-c-init c = marking_start
 
-pub mark_edge-requires-clause-c_in_bounds : goal.mark_edge-requires-clause-c_in_bounds
-mark_edge-requires-clause-c_in_bounds c =
+pub mark_edge-requires : goal.mark_edge-requires
+mark_edge-requires c =
     let e = read_back 6 c.divergence-n.ensures (divergence_most _ _) (omega arith) (omega arith) in
     let l = front_long c.divergence-n.new.columns c.divergence-n.result e.columns_room in
     rw (front_at c.divergence-n.new.columns c.divergence-n.result c.loop-c.c-index 0 c.loop-c-test.true)
     (omega (
       arith,
-      (below_more (low_below e (low_divergence _ c.requires.limits _ c.requires.q_bound)) c.requires.grid_in_bounds).low c.loop-c.c-index (omega arith),
+      (below_more (low_below e (low_divergence _ c.args.l.now.limits _ c.requires.q_bound)) c.requires.grid_in_bounds).low c.loop-c.c-index (omega arith),
       c.loop-c.invariant.marked.same_long,
     ))
 

@@ -28,7 +28,7 @@ mark_node-requires-clause-q_bound c =
     let e = read_back 2 c.gradient-n.ensures (gradient_most _ _) (omega arith) (omega arith) in
     let l = front_long c.gradient-n.new.columns c.gradient-n.result e.columns_room in
     rw (front_at c.gradient-n.new.columns c.gradient-n.result c.loop-q.q-index 0 c.loop-q-test.true)
-    ((low_below e (low_gradient _ c.requires.limits _ c.requires.r_bound)).low _ (omega arith))
+    ((low_below e (low_gradient _ c.args.l.now.limits _ c.requires.r_bound)).low _ (omega arith))
 
 pub mark_node-requires-clause-grid_in_bounds : goal.mark_node-requires-clause-grid_in_bounds
 mark_node-requires-clause-grid_in_bounds c = omega (arith, c.requires.grid_in_bounds, length-set c.args.out.now c.args.r true, c.loop-q.invariant.marked.same_long)

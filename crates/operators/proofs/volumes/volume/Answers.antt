@@ -5,13 +5,13 @@ use Rattle.operators.proofs.VolumeLaws.{volume_is}
 use Rattle.operators.proofs.volumes.volume.Goals as goal
 
 pub side-requires-clause-inside : goal.side-requires-clause-inside
-side-requires-clause-inside c = at_in c.requires.limits c.requires.r_bound c.at-p.ensures
+side-requires-clause-inside c = at_in c.args.l.now.limits c.requires c.at-p.ensures
 
 pub side-requires-2-clause-inside : goal.side-requires-2-clause-inside
-side-requires-2-clause-inside c = at_in c.requires.limits c.requires.r_bound c.at-p.ensures
+side-requires-2-clause-inside c = at_in c.args.l.now.limits c.requires c.at-p.ensures
 
 pub side-requires-3-clause-inside : goal.side-requires-3-clause-inside
-side-requires-3-clause-inside c = at_in c.requires.limits c.requires.r_bound c.at-p.ensures
+side-requires-3-clause-inside c = at_in c.args.l.now.limits c.requires c.at-p.ensures
 
 pub returns : goal.returns
 returns c =

@@ -7,13 +7,13 @@ pub loop-r-init : goal.loop-r-init
 loop-r-init c = placing_start
 
 pub overflow_add-k : goal.overflow_add-k
-overflow_add-k c = omega (arith, unknowns_most c.requires.limits)
+overflow_add-k c = omega (arith, unknowns_most c.args.l.now.limits)
 
 pub loop-r-preserved : goal.loop-r-preserved
 loop-r-preserved c = placing_turn c.loop-r.invariant c.loop-r-test.true c.volume.ensures c.put.ensures
 
 pub finite_numbers-requires : goal.finite_numbers-requires
-finite_numbers-requires c = omega (arith, placing_long c.loop-r.invariant, unknowns_most c.requires.limits)
+finite_numbers-requires c = omega (arith, placing_long c.loop-r.invariant, unknowns_most c.args.l.now.limits)
 
 pub returns-clause-scaling_after : goal.returns-clause-scaling_after
 returns-clause-scaling_after c = rw (← c.unknowns-n.ensures) (placing_end c.loop-r.invariant c.loop-r-test.false)

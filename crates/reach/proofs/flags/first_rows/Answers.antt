@@ -5,7 +5,7 @@ use Rattle.store.proofs.PassLaws.{first_mutual}
 use Rattle.reach.proofs.flags.first_rows.Goals as goal
 
 pub unknowns-n-requires : goal.unknowns-n-requires
-unknowns-n-requires c = c.requires.limits
+unknowns-n-requires c = c.args.l.now.limits
 
 pub loop-c-init : goal.loop-c-init
 loop-c-init c = (omega arith, spread_start)
@@ -20,4 +20,4 @@ pub loop-c-preserved : goal.loop-c-preserved
 loop-c-preserved c = (omega arith, spread_turn c.loop-c.invariant.1 c.first_row.ensures)
 
 pub returns : goal.returns
-returns c = spread_raised (first_mutual _ c.requires.limits) c.loop-c.invariant.1 (omega (arith, c.unknowns-n.ensures))
+returns c = spread_raised (first_mutual _ c.args.l.now.limits) c.loop-c.invariant.1 (omega (arith, c.unknowns-n.ensures))

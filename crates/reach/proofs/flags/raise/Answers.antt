@@ -1,4 +1,4 @@
--- `store::flags::raise` meets its contract.
+-- `reach::flags::raise` meets its contract.
 -- Assumes nothing.
 use Rattle.store.proofs.RaisedLaws.{raise_not, raise_set}
 use Rattle.reach.proofs.flags.raise.Goals as goal

@@ -1,14 +1,14 @@
--- `store::reach::first_hits` meets its contract.
+-- `reach::hits::first_hits` meets its contract.
 -- Assumes nothing.
-use Rattle.lattice.specs.Lattice.{full_lattice}
+use Rattle.lattice.specs.Sound.{full}
 use Rattle.store.proofs.HitLaws.{edge_room, first_room, first_hits}
 use Rattle.reach.proofs.hits.first_hits.Goals as goal
 
 pub raise-requires : goal.raise-requires
-raise-requires c = edge_room _ c.requires.limits c.args.edge c.requires.edge_bound
+raise-requires c = edge_room _ c.args.l.now.limits c.args.edge c.requires
 
-pub first_operator-requires-clause-grid_in_bounds : goal.first_operator-requires-clause-grid_in_bounds
-first_operator-requires-clause-grid_in_bounds c = first_room (full_lattice c.args.l c.args.st.now) c.requires.limits
+pub first_operator-requires : goal.first_operator-requires
+first_operator-requires c = first_room (full c.args.l.now) c.args.l.now.limits
 
 pub returns : goal.returns
-returns c = first_hits _ c.requires.limits c.args.edge c.requires.edge_bound c.raise.ensures _ _ c.first_operator.ensures
+returns c = first_hits _ c.args.l.now.limits c.args.edge c.requires c.raise.ensures _ _ c.first_operator.ensures

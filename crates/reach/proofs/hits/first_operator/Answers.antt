@@ -1,4 +1,4 @@
--- `store::reach::first_operator` meets its contract.
+-- `reach::hits::first_operator` meets its contract.
 -- Assumes nothing.
 use Rattle.store.proofs.HitLaws.{first_left, first_raised}
 use Rattle.reach.proofs.hits.first_operator.Goals as goal

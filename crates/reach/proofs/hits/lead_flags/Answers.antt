@@ -1,10 +1,10 @@
--- `store::reach::lead_flags` meets its contract.
+-- `reach::hits::lead_flags` meets its contract.
 -- Assumes nothing.
 use Rattle.store.proofs.HitLaws.{rows_there, leads_first, leads_room, leads_stored}
 use Rattle.reach.proofs.hits.lead_flags.Goals as goal
 
-pub first_flags-requires-clause-grid_in_bounds : goal.first_flags-requires-clause-grid_in_bounds
-first_flags-requires-clause-grid_in_bounds c = leads_room _ _ c.args.out.now c.if-level-eq0.true c.requires.n_value.0 c.requires.n_value.1
+pub first_flags-requires : goal.first_flags-requires
+first_flags-requires c = leads_room _ _ c.args.out.now c.if-level-eq0.true c.requires.n_value.0 c.requires.n_value.1
 
 pub returns-then-level-eq0 : goal.returns-then-level-eq0
 returns-then-level-eq0 c = leads_first _ _ c.if-level-eq0.true c.requires.n_value.0 c.first_flags.ensures

@@ -1,4 +1,4 @@
--- `store::reach::level_bits` meets its contract.
+-- `reach::hits::level_bits` meets its contract.
 -- Assumes nothing.
 use native.Mathlib.Omega.{arith}
 use Rattle.store.proofs.BitLaws.{transfer_ends, level_bits}
@@ -18,4 +18,4 @@ pub raise_bits-requires : goal.raise_bits-requires
 raise_bits-requires c = (omega (arith, c.requires.hits_long.operator_long), omega (arith, c.only-only.ensures, only_most c.args.choice c.args.k, c.only-volumes.ensures, only_most c.args.choice c.args.n, (transfer_ends c.transfer_bits-at.ensures).0, (transfer_ends c.transfer_bits-at.ensures).1, c.raise_bits-at.ensures.next_is, c.raise_bits-at.ensures.same_long), omega (arith, c.only-only.ensures, only_most c.args.choice c.args.k, c.only-volumes.ensures, only_most c.args.choice c.args.n, (transfer_ends c.transfer_bits-at.ensures).0, (transfer_ends c.transfer_bits-at.ensures).1, c.raise_bits-at.ensures.next_is, c.raise_bits-at.ensures.same_long))
 
 pub returns : goal.returns
-returns c = level_bits c.args.choice c.args.n c.args.k c.args.base c.args.h.now c.only-only.ensures c.only-volumes.ensures c.transfer_bits-at.ensures c.raise_bits-at.ensures c.raise_bits.ensures
+returns c = level_bits c.args.choice c.args.n c.args.k c.args.base c.args.hits.now c.only-only.ensures c.only-volumes.ensures c.transfer_bits-at.ensures c.raise_bits-at.ensures c.raise_bits.ensures

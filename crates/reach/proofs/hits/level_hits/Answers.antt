@@ -1,4 +1,4 @@
--- `store::reach::level_hits` meets its contract.
+-- `reach::hits::level_hits` meets its contract.
 -- Assumes nothing.
 use Rattle.store.proofs.HitLaws.{level_raised}
 use Rattle.reach.proofs.hits.level_hits.Goals as goal

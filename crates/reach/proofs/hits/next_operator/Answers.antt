@@ -1,4 +1,4 @@
--- `store::reach::next_operator` meets its contract.
+-- `reach::hits::next_operator` meets its contract.
 -- Assumes nothing.
 use Rattle.store.proofs.HitLaws.{part_stays, part_moves}
 use Rattle.reach.proofs.hits.next_operator.Goals as goal

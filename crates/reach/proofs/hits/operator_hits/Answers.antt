@@ -1,4 +1,4 @@
--- `store::reach::operator_hits` meets its contract.
+-- `reach::hits::operator_hits` meets its contract.
 -- Assumes nothing.
 use Rattle.store.proofs.HitLaws.{held_as}
 use Rattle.reach.proofs.hits.operator_hits.Goals as goal

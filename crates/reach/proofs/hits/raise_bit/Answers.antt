@@ -1,4 +1,4 @@
--- `store::reach::raise_bit` meets its contract.
+-- `reach::hits::raise_bit` meets its contract.
 -- Assumes nothing.
 use mathlib.Core.Path.{refl}
 use Rattle.store.proofs.RaisedLaws.{bit_left, bit_raised}

@@ -1,4 +1,4 @@
--- `store::reach::raise_bits` meets its contract. The invariant: the bits of the first r flags have been set.
+-- `reach::hits::raise_bits` meets its contract. The invariant: the bits of the first r flags have been set.
 -- Assumes nothing.
 use Prim.Native.Nat.{◌+◌}
 use Prim.Native.Nat.{◌≤◌}

@@ -1,33 +1,33 @@
+use Rattle.store.specs.Hierarchy.{the_lattice}
 use mathlib.Core.Path.{◌∙◌}
 use native.Mathlib.Omega.{arith}
-use Rattle.lattice.specs.Lattice.{full_lattice}
 use Rattle.store.proofs.BitLaws.{raising_start, raising_turn, raising_room, raising_end, none_set, words_long, sole_room}
 use Rattle.store.proofs.HitLaws.{parts_start, transfer_here, operator_here, ends_here}
 use Rattle.reach.proofs.hits.raise_flags.Goals as goal
 
-pub level_edges-first-requires-clause-level_le_m : goal.level_edges-first-requires-clause-level_le_m
-level_edges-first-requires-clause-level_le_m c = (omega arith, c.requires.m_bound)
+pub edges-first-requires : goal.edges-first-requires
+edges-first-requires c = omega arith
 
 pub sole_bits-base-requires-clause-hits_long : goal.sole_bits-base-requires-clause-hits_long
-sole_bits-base-requires-clause-hits_long c = c.first_hits-h.ensures.long
+sole_bits-base-requires-clause-hits_long c = c.first_hits-hits.ensures.long
 
 pub sole_bits-base-requires-clause-n_bound : goal.sole_bits-base-requires-clause-n_bound
-sole_bits-base-requires-clause-n_bound c = sole_room _ c.requires.limits c.level_edges-first.ensures c.requires.flags_value
+sole_bits-base-requires-clause-n_bound c = sole_room _ c.args.h.now.l.limits c.edges-first.ensures c.requires.flags_value
 
 pub loop-level-init : goal.loop-level-init
-loop-level-init c = raising_start _ _ _ (parts_start (full_lattice c.args.l c.args.st.now) c.args.choice c.args.m) (c.sole_bits-base.ensures.next_is (full_lattice c.args.l c.args.st.now) c.args.choice c.level_edges-first.ensures) c.first_hits-h.ensures.long
+loop-level-init c = raising_start _ _ _ (parts_start (the_lattice c.args.h.now) c.args.choice c.args.h.now.m) (c.sole_bits-base.ensures.next_is (the_lattice c.args.h.now) c.args.choice c.edges-first.ensures) c.first_hits-hits.ensures.long
 
-pub level_edges-n-requires-clause-level_le_m : goal.level_edges-n-requires-clause-level_le_m
-level_edges-n-requires-clause-level_le_m c = (omega (arith, c.loop-level-test.true), c.requires.m_bound)
+pub edges-n-requires : goal.edges-n-requires
+edges-n-requires c = omega (arith, c.loop-level-test.true)
 
 pub overflow_add-level : goal.overflow_add-level
-overflow_add-level c = omega (arith, c.loop-level-test.true, c.requires.m_bound)
+overflow_add-level c = omega (arith, c.loop-level-test.true, c.args.h.now.few)
 
-pub level_edges-k-requires-clause-level_le_m : goal.level_edges-k-requires-clause-level_le_m
-level_edges-k-requires-clause-level_le_m c = (omega (arith, c.loop-level-test.true), c.requires.m_bound)
+pub edges-k-requires : goal.edges-k-requires
+edges-k-requires c = omega (arith, c.loop-level-test.true)
 
 pub level_hits-requires-clause-level_lt_m : goal.level_hits-requires-clause-level_lt_m
-level_hits-requires-clause-level_lt_m c = (c.loop-level-test.true, c.requires.m_bound)
+level_hits-requires-clause-level_lt_m c = c.loop-level-test.true
 
 pub level_hits-requires-clause-hits_long : goal.level_hits-requires-clause-hits_long
 level_hits-requires-clause-hits_long c = c.loop-level.invariant.long
@@ -42,10 +42,10 @@ pub level_bits-base-requires-clause-hits_long : goal.level_bits-base-requires-cl
 level_bits-base-requires-clause-hits_long c = c.level_hits.ensures.long
 
 pub level_bits-base-requires-clause-n_bound : goal.level_bits-base-requires-clause-n_bound
-level_bits-base-requires-clause-n_bound c = raising_room _ _ _ c.loop-level.invariant c.loop-level-test.true c.requires.limits c.requires.m_bound c.level_edges-n.ensures c.level_edges-k.ensures (c.sole_bits-base.ensures.same_long ∙ words_long c.requires.flags_value)
+level_bits-base-requires-clause-n_bound c = raising_room _ _ _ c.loop-level.invariant c.loop-level-test.true c.args.h.now.l.limits c.args.h.now.few c.edges-n.ensures c.edges-k.ensures (c.sole_bits-base.ensures.same_long ∙ words_long c.requires.flags_value)
 
 pub next_parts-a-requires-clause-level_lt_m : goal.next_parts-a-requires-clause-level_lt_m
-next_parts-a-requires-clause-level_lt_m c = (c.loop-level-test.true, c.requires.m_bound)
+next_parts-a-requires-clause-level_lt_m c = c.loop-level-test.true
 
 pub next_parts-a-requires-clause-a_value : goal.next_parts-a-requires-clause-a_value
 next_parts-a-requires-clause-a_value c = c.loop-level.invariant.parts_are
@@ -57,7 +57,7 @@ pub loop-level-smaller : goal.loop-level-smaller
 loop-level-smaller c = omega (arith, c.loop-level-test.true)
 
 pub loop-level-preserved : goal.loop-level-preserved
-loop-level-preserved c = raising_turn _ _ _ c.loop-level.invariant c.loop-level-test.true c.level_edges-n.ensures c.level_edges-k.ensures c.level_hits.ensures c.level_bits-base.ensures c.next_parts-a.ensures
+loop-level-preserved c = raising_turn _ _ _ c.loop-level.invariant c.loop-level-test.true c.edges-n.ensures c.edges-k.ensures c.level_hits.ensures c.level_bits-base.ensures c.next_parts-a.ensures
 
 pub returns : goal.returns
-returns c = raising_end _ _ _ c.requires.limits c.requires.m_bound c.loop-level.invariant c.loop-level-test.false (c.sole_bits-base.ensures.same_long ∙ words_long c.requires.flags_value) c.args.edge c.first_hits-h.ensures (c.sole_bits-base.ensures.marked _ _ c.level_edges-first.ensures c.args.edge c.first_hits-h.ensures.sole_are (none_set c.requires.flags_value))
+returns c = raising_end _ _ _ c.args.h.now.l.limits c.args.h.now.few c.loop-level.invariant c.loop-level-test.false (c.sole_bits-base.ensures.same_long ∙ words_long c.requires.flags_value) c.args.edge c.first_hits-hits.ensures (c.sole_bits-base.ensures.marked _ _ c.edges-first.ensures c.args.edge c.first_hits-hits.ensures.sole_are (none_set c.requires.flags_value))

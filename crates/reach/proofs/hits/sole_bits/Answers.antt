@@ -1,4 +1,4 @@
--- `store::reach::sole_bits` meets its contract.
+-- `reach::hits::sole_bits` meets its contract.
 -- Assumes nothing.
 use native.Mathlib.Omega.{arith}
 use Rattle.store.proofs.BitLaws.{sole_none, sole_bits}

@@ -1,4 +1,4 @@
--- `store::reach::transfer_bits` meets its contract.
+-- `reach::hits::transfer_bits` meets its contract.
 -- Assumes nothing.
 use native.Mathlib.Omega.{arith}
 use Rattle.store.proofs.BitLaws.{transfer_bits}

@@ -1,11 +1,11 @@
--- `store::cursor::find` meets its contract.
+-- `renew::cursor::find` meets its contract.
 -- Assumes nothing.
-use Rattle.store.specs.Cells.{chart}
+use Rattle.renew.specs.Walk.{chart_of}
 use Rattle.store.proofs.CellLaws.{Finding}
 use Rattle.renew.proofs.cursor.find.Given as goal
 
 abbrev pub invariant-loop-p : goal.invariant-loop-p
-invariant-loop-p l = Finding (chart l.flags l.shape l.starts l.tstarts l.ostarts) l.parts l.part l.row l.p l.first
+invariant-loop-p l = Finding (chart_of l.fn.w) l.fn.w.parts l.part l.row l.p l.first
 
 abbrev pub invariant-loop-i : goal.invariant-loop-i
-invariant-loop-i l = Finding (chart l.flags l.shape l.starts l.tstarts l.ostarts) l.parts l.part l.row l.p l.i
+invariant-loop-i l = Finding (chart_of l.fn.w) l.fn.w.parts l.part l.row l.p l.i

@@ -1,51 +1,37 @@
--- `store::cursor::read` meets its contract.
+-- `renew::cursor::read` meets its contract.
 -- Assumes nothing.
-use native.Mathlib.Omega.{arith}
+use mathlib.Core.Path.{ap}
+use Rattle.store.specs.Cells.{kind_in}
 use Rattle.store.specs.Spots.{permittivity, forwards, turneds, entries, scales}
-use Rattle.store.proofs.CellLaws.{kind_0, kind_1, kind_2, kind_3, kind_4, below_kind, read_kind}
+use Rattle.store.proofs.CellLaws.{below_kind, read_kind}
 use Rattle.renew.proofs.cursor.read.Goals as goal
 
-pub offset_bounds-eps-at : goal.offset_bounds-eps-at
-offset_bounds-eps-at c = let h = below_kind _ _ _ permittivity (kind_0 _ c.if-list-eq0.true) c.requires in omega arith
+pub bounds-v-at : goal.bounds-v-at
+bounds-v-at c = below_kind _ _ _ permittivity (ap kind_in c.in-Permittivities.is) c.requires
 
-pub bounds-eps-at : goal.bounds-eps-at
-bounds-eps-at c = below_kind _ _ _ permittivity (kind_0 _ c.if-list-eq0.true) c.requires
+pub returns-in-Permittivities : goal.returns-in-Permittivities
+returns-in-Permittivities c = read_kind _ _ _ permittivity (ap kind_in c.in-Permittivities.is)
 
-pub returns-then-list-eq0 : goal.returns-then-list-eq0
-returns-then-list-eq0 c = read_kind _ _ _ permittivity (kind_0 _ c.if-list-eq0.true)
+pub bounds-v-at-in-Forward : goal.bounds-v-at-in-Forward
+bounds-v-at-in-Forward c = below_kind _ _ _ forwards (ap kind_in c.in-Forward.is) c.requires
 
-pub offset_bounds-values-at : goal.offset_bounds-values-at
-offset_bounds-values-at c = let h = below_kind _ _ _ forwards (kind_1 _ c.if-list-eq1.true) c.requires in omega arith
+pub returns-in-Forward : goal.returns-in-Forward
+returns-in-Forward c = read_kind _ _ _ forwards (ap kind_in c.in-Forward.is)
 
-pub bounds-values-at : goal.bounds-values-at
-bounds-values-at c = below_kind _ _ _ forwards (kind_1 _ c.if-list-eq1.true) c.requires
+pub bounds-v-at-in-Turned : goal.bounds-v-at-in-Turned
+bounds-v-at-in-Turned c = below_kind _ _ _ turneds (ap kind_in c.in-Turned.is) c.requires
 
-pub returns-then-list-eq1 : goal.returns-then-list-eq1
-returns-then-list-eq1 c = read_kind _ _ _ forwards (kind_1 _ c.if-list-eq1.true)
+pub returns-in-Turned : goal.returns-in-Turned
+returns-in-Turned c = read_kind _ _ _ turneds (ap kind_in c.in-Turned.is)
 
-pub offset_bounds-tvalues-at : goal.offset_bounds-tvalues-at
-offset_bounds-tvalues-at c = let h = below_kind _ _ _ turneds (kind_2 _ c.if-list-eq2.true) c.requires in omega arith
+pub bounds-v-at-in-Operator : goal.bounds-v-at-in-Operator
+bounds-v-at-in-Operator c = below_kind _ _ _ entries (ap kind_in c.in-Operator.is) c.requires
 
-pub bounds-tvalues-at : goal.bounds-tvalues-at
-bounds-tvalues-at c = below_kind _ _ _ turneds (kind_2 _ c.if-list-eq2.true) c.requires
+pub returns-in-Operator : goal.returns-in-Operator
+returns-in-Operator c = read_kind _ _ _ entries (ap kind_in c.in-Operator.is)
 
-pub returns-then-list-eq2 : goal.returns-then-list-eq2
-returns-then-list-eq2 c = read_kind _ _ _ turneds (kind_2 _ c.if-list-eq2.true)
+pub bounds-v-at-in-Scaling : goal.bounds-v-at-in-Scaling
+bounds-v-at-in-Scaling c = below_kind _ _ _ scales (ap kind_in c.in-Scaling.is) c.requires
 
-pub offset_bounds-ovalues-at : goal.offset_bounds-ovalues-at
-offset_bounds-ovalues-at c = let h = below_kind _ _ _ entries (kind_3 _ c.if-list-eq3.true) c.requires in omega arith
-
-pub bounds-ovalues-at : goal.bounds-ovalues-at
-bounds-ovalues-at c = below_kind _ _ _ entries (kind_3 _ c.if-list-eq3.true) c.requires
-
-pub returns-then-list-eq3 : goal.returns-then-list-eq3
-returns-then-list-eq3 c = read_kind _ _ _ entries (kind_3 _ c.if-list-eq3.true)
-
-pub offset_bounds-scaling-at : goal.offset_bounds-scaling-at
-offset_bounds-scaling-at c = let h = below_kind _ _ _ scales (kind_4 _ c.if-list-eq0.false c.if-list-eq1.false c.if-list-eq2.false c.if-list-eq3.false) c.requires in omega arith
-
-pub bounds-scaling-at : goal.bounds-scaling-at
-bounds-scaling-at c = below_kind _ _ _ scales (kind_4 _ c.if-list-eq0.false c.if-list-eq1.false c.if-list-eq2.false c.if-list-eq3.false) c.requires
-
-pub returns : goal.returns
-returns c = read_kind _ _ _ scales (kind_4 _ c.if-list-eq0.false c.if-list-eq1.false c.if-list-eq2.false c.if-list-eq3.false)
+pub returns-in-Scaling : goal.returns-in-Scaling
+returns-in-Scaling c = read_kind _ _ _ scales (ap kind_in c.in-Scaling.is)

@@ -9,8 +9,8 @@ loop-n-init c = (c.requires.cursor_in.1, saving_start c.args.old.now c.requires.
 pub read-requires : goal.read-requires
 read-requires c = let h = c.loop-n.invariant.1.within.there (λ z. omega (arith, z, c.loop-n.invariant.0)) _ c.requires.cells_fit in omega (arith, h, c.loop-n.invariant.0)
 
-pub step-c-requires-clause-cursor_in : goal.step-c-requires-clause-cursor_in
-step-c-requires-clause-cursor_in c = (c.loop-n.invariant.1.within, c.loop-n.invariant.0)
+pub step-c-requires : goal.step-c-requires
+step-c-requires c = (c.loop-n.invariant.1.within, c.loop-n.invariant.0)
 
 pub returns-then-c-eq0 : goal.returns-then-c-eq0
 returns-then-c-eq0 c =

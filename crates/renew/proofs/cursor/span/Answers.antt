@@ -1,35 +1,38 @@
--- `store::cursor::span` meets its contract.
+-- `renew::cursor::span` meets its contract.
 -- Assumes nothing.
-use Rattle.store.specs.Cells.{chart, list_no}
-use native.Mathlib.Omega.{arith}
-use Rattle.store.specs.Spots.{forwards, turneds, entries}
-use mathlib.Core.Path.{◌∙◌}
-use Rattle.store.proofs.CellLaws.{kind_1, kind_2, kind_3, fits_kind, span_kind, one_low, span_one}
+use mathlib.Core.Path.{ap, ◌∙◌}
+use Rattle.store.specs.Cells.{kind_in, list_in}
+use Rattle.store.specs.Spots.{permittivity, forwards, turneds, entries, scales}
+use Rattle.store.proofs.CellLaws.{fits_kind, span_kind}
+use Rattle.renew.specs.Walk.{chart_of}
 use Rattle.renew.proofs.cursor.span.Goals as goal
 
+pub single-requires : goal.single-requires
+single-requires c = let a = c.args in let w = chart_of a.w.now in fits_kind w (list_in w a.part) a.part a.i permittivity (ap kind_in c.in-Permittivities.is) (a.w.now.fits.spans _ _ c.requires.0 c.requires.1)
+
+pub returns-in-Permittivities : goal.returns-in-Permittivities
+returns-in-Permittivities c = let a = c.args in let w = chart_of a.w.now in c.single.ensures ∙ span_kind w a.part a.i permittivity (ap kind_in c.in-Permittivities.is)
+
 pub between-requires : goal.between-requires
-between-requires c = let a = c.args in let w = chart a.flags.now a.shape.now a.starts.now a.tstarts.now a.ostarts.now in fits_kind w (list_no w a.part) a.part a.i forwards (kind_1 _ c.if-list-eq1.true) (c.requires.chart_fits.spans _ _ c.requires.part_lt_parts.0 c.requires.part_lt_parts.1)
+between-requires c = let a = c.args in let w = chart_of a.w.now in fits_kind w (list_in w a.part) a.part a.i forwards (ap kind_in c.in-Forward.is) (a.w.now.fits.spans _ _ c.requires.0 c.requires.1)
 
-pub returns-then-list-eq1 : goal.returns-then-list-eq1
-returns-then-list-eq1 c = let a = c.args in let w = chart a.flags.now a.shape.now a.starts.now a.tstarts.now a.ostarts.now in c.between.ensures ∙ span_kind w a.part a.i forwards (kind_1 _ c.if-list-eq1.true)
+pub returns-in-Forward : goal.returns-in-Forward
+returns-in-Forward c = let a = c.args in let w = chart_of a.w.now in c.between.ensures ∙ span_kind w a.part a.i forwards (ap kind_in c.in-Forward.is)
 
-pub between-requires-then-list-eq2 : goal.between-requires-then-list-eq2
-between-requires-then-list-eq2 c = let a = c.args in let w = chart a.flags.now a.shape.now a.starts.now a.tstarts.now a.ostarts.now in fits_kind w (list_no w a.part) a.part a.i turneds (kind_2 _ c.if-list-eq2.true) (c.requires.chart_fits.spans _ _ c.requires.part_lt_parts.0 c.requires.part_lt_parts.1)
+pub between-requires-in-Turned : goal.between-requires-in-Turned
+between-requires-in-Turned c = let a = c.args in let w = chart_of a.w.now in fits_kind w (list_in w a.part) a.part a.i turneds (ap kind_in c.in-Turned.is) (a.w.now.fits.spans _ _ c.requires.0 c.requires.1)
 
-pub returns-then-list-eq2 : goal.returns-then-list-eq2
-returns-then-list-eq2 c = let a = c.args in let w = chart a.flags.now a.shape.now a.starts.now a.tstarts.now a.ostarts.now in c.between-then-list-eq2.ensures ∙ span_kind w a.part a.i turneds (kind_2 _ c.if-list-eq2.true)
+pub returns-in-Turned : goal.returns-in-Turned
+returns-in-Turned c = let a = c.args in let w = chart_of a.w.now in c.between-in-Turned.ensures ∙ span_kind w a.part a.i turneds (ap kind_in c.in-Turned.is)
 
-pub between-requires-then-list-eq3 : goal.between-requires-then-list-eq3
-between-requires-then-list-eq3 c = let a = c.args in let w = chart a.flags.now a.shape.now a.starts.now a.tstarts.now a.ostarts.now in fits_kind w (list_no w a.part) a.part a.i entries (kind_3 _ c.if-list-eq3.true) (c.requires.chart_fits.spans _ _ c.requires.part_lt_parts.0 c.requires.part_lt_parts.1)
+pub between-requires-in-Operator : goal.between-requires-in-Operator
+between-requires-in-Operator c = let a = c.args in let w = chart_of a.w.now in fits_kind w (list_in w a.part) a.part a.i entries (ap kind_in c.in-Operator.is) (a.w.now.fits.spans _ _ c.requires.0 c.requires.1)
 
-pub returns-then-list-eq3 : goal.returns-then-list-eq3
-returns-then-list-eq3 c = let a = c.args in let w = chart a.flags.now a.shape.now a.starts.now a.tstarts.now a.ostarts.now in c.between-then-list-eq3.ensures ∙ span_kind w a.part a.i entries (kind_3 _ c.if-list-eq3.true)
+pub returns-in-Operator : goal.returns-in-Operator
+returns-in-Operator c = let a = c.args in let w = chart_of a.w.now in c.between-in-Operator.ensures ∙ span_kind w a.part a.i entries (ap kind_in c.in-Operator.is)
 
-pub overflow_add-result : goal.overflow_add-result
-overflow_add-result c = let a = c.args in let w = chart a.flags.now a.shape.now a.starts.now a.tstarts.now a.ostarts.now in let h = one_low w (list_no w a.part) a.part a.i c.if-list-eq1.false c.if-list-eq2.false c.if-list-eq3.false (c.requires.chart_fits.spans _ _ c.requires.part_lt_parts.0 c.requires.part_lt_parts.1) in omega arith
+pub single-requires-in-Scaling : goal.single-requires-in-Scaling
+single-requires-in-Scaling c = let a = c.args in let w = chart_of a.w.now in fits_kind w (list_in w a.part) a.part a.i scales (ap kind_in c.in-Scaling.is) (a.w.now.fits.spans _ _ c.requires.0 c.requires.1)
 
-pub overflow_mul-result : goal.overflow_mul-result
-overflow_mul-result c = let a = c.args in let w = chart a.flags.now a.shape.now a.starts.now a.tstarts.now a.ostarts.now in let h = one_low w (list_no w a.part) a.part a.i c.if-list-eq1.false c.if-list-eq2.false c.if-list-eq3.false (c.requires.chart_fits.spans _ _ c.requires.part_lt_parts.0 c.requires.part_lt_parts.1) in omega arith
-
-pub returns : goal.returns
-returns c = let a = c.args in let w = chart a.flags.now a.shape.now a.starts.now a.tstarts.now a.ostarts.now in span_one w a.part a.i c.if-list-eq1.false c.if-list-eq2.false c.if-list-eq3.false
+pub returns-in-Scaling : goal.returns-in-Scaling
+returns-in-Scaling c = let a = c.args in let w = chart_of a.w.now in c.single-in-Scaling.ensures ∙ span_kind w a.part a.i scales (ap kind_in c.in-Scaling.is)

@@ -1,8 +1,8 @@
+use Rattle.store.specs.Hierarchy.{the_lattice}
 use Rattle.std.proofs.Common.{◌≡◌, ◌+◌, suc}
 use Prim.Native.Nat.{suc}
 use mathlib.Core.Path.{refl}
 use native.Mathlib.Omega.{arith}
-use Rattle.lattice.specs.Lattice.{full_lattice}
 use mathlib.Core.List.{[]}
 use Rattle.operators.proofs.RangeLaws.{edges_few}
 use Rattle.operators.proofs.GalerkinLaws.{rows_start}
@@ -15,7 +15,7 @@ pub loop-c-init : goal.loop-c-init
 loop-c-init c = (omega arith, (refl, ((rows_start {f = λ _. []} {m = 0} {k = 0} {xs = []}).none, galerkin_none c.args.level c.args.flags.now c.args.base)))
 
 pub overflow_add-base : goal.overflow_add-base
-overflow_add-base c = omega (arith, c.requires.n_value, c.loop-c-test.true, edges_few (full_lattice c.args.l c.args.st.now) c.requires.shaped.limits (suc c.args.level))
+overflow_add-base c = omega (arith, c.requires.n_value, c.loop-c-test.true, edges_few (the_lattice c.args.h.now) c.requires.shaped.limits (suc c.args.level))
 
 pub galerkin_row-requires-clause-five_room : goal.galerkin_row-requires-clause-five_room
 galerkin_row-requires-clause-five_room c = galerkin_long c.loop-c.ovalues c.loop-c.invariant.1.0 c.requires.five_room

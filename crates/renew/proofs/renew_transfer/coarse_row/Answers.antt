@@ -1,4 +1,4 @@
--- `store::renew_transfer::coarse_row` meets its contract. The grids are those of the two levels.
+-- `renew::renew_transfer::coarse_row` meets its contract. The grids are those of the two levels.
 -- Assumes nothing.
 use Rattle.store.proofs.RenewTransferLaws.{coarse_asked, coarse_done}
 use Rattle.renew.proofs.renew_transfer.coarse_row.Goals as goal
@@ -16,4 +16,4 @@ pub coarse_eps_row-requires-clause-r_bound : goal.coarse_eps_row-requires-clause
 coarse_eps_row-requires-clause-r_bound c = (coarse_asked c.requires.pair_at c.requires.chain_room (c.requires.from_value.0, c.requires.from_value.1) c.grid_of-gf.ensures c.grid_of-gc.ensures c.requires.from_value.2).1.1.1
 
 pub returns : goal.returns
-returns c = λ ch m. coarse_done c.requires.pair_at c.requires.chain_room (c.requires.from_value.0, c.requires.from_value.1) c.grid_of-gf.ensures c.grid_of-gc.ensures c.requires.from_value.2 ch m c.coarse_eps_row.ensures.eps_after c.coarse_eps_row.ensures.value
+returns c = record { made = λ ch m. coarse_done c.requires.pair_at c.requires.chain_room (c.requires.from_value.0, c.requires.from_value.1) c.grid_of-gf.ensures c.grid_of-gc.ensures c.requires.from_value.2 ch m c.coarse_eps_row.ensures.eps_after c.coarse_eps_row.ensures.value }

@@ -1,6 +1,6 @@
+use Rattle.store.specs.Hierarchy.{the_lattice}
 use native.Mathlib.Omega.{arith}
 use Rattle.std.proofs.Common.{ℕ, rules, ap, ◌+◌, ◌*◌, ◌≤◌, ◌<◌, length, refl}
-use Rattle.lattice.specs.Lattice.{full_lattice}
 use Rattle.operators.specs.LevelLists.{edges_on}
 use Rattle.store.specs.declared.Choice.{Choice}
 use Rattle.store.specs.Parts.{row_by}
@@ -17,15 +17,15 @@ renew_each-requires-clause-flags_there c =
 pub renew_each-requires-clause-takes : goal.renew_each-requires-clause-takes
 renew_each-requires-clause-takes c = λ xs r k h. record {
   taken = λ p e.
-      let b : r < edges_on (full_lattice c.args.l c.args.st.now) c.args.level = omega (arith, h, c.requires.k_value.1) in
-      let q : 2 * (c.args.k + forward_count (full_lattice c.args.l c.args.st.now) c.args.level) ≤ length p.now = omega (arith, k, ap length e, c.requires.k_value.3) in
+      let b : r < edges_on (the_lattice c.args.h.now) c.args.level = omega (arith, h, c.requires.k_value.1) in
+      let q : 2 * (c.args.k + forward_count (the_lattice c.args.h.now) c.args.level) ≤ length p.now = omega (arith, k, ap length e, c.requires.k_value.3) in
       λ κs a b' d. search (c.requires.weights_ready, c.requires.starts_at, c.requires.k_value.0, c.requires.k_value.2, q, b);
 }
 
 pub returns : goal.returns
 returns c =
-    part_renewed c.args.level 2 _ (omega arith) c.requires.part_flags (forward_sized _ _ _ c.requires.k_value.1) refl c.renew_each.result c.renew_each.ensures (with_forward c.args.eps.now)
+    part_renewed c.args.level 2 _ (omega arith) c.requires.part_flags (forward_sized _ _ _ c.requires.k_value.1) refl c.renew_each.result c.renew_each.ensures (with_forward c.args.w.now.eps.now)
     (λ r zs b ys h k g.
     let z = g.met in
-    let y : (ch : Choice) (m : ℕ) → Made (full_lattice c.args.l c.args.st.now) ch m (row_by 2 c.args.level r) (with_forward c.args.eps.now) g.shown.now b g.left.now = (let c : ℕ = 0 in search rules) in
-    rw (← g.shows, ← g.leaves) (y c.args.choice c.args.m))
+    let y : (ch : Choice) (m : ℕ) → Made (the_lattice c.args.h.now) ch m (row_by 2 c.args.level r) (with_forward c.args.w.now.eps.now) g.shown.now b g.left.now = (let c : ℕ = 0 in search rules) in
+    rw (← g.shows, ← g.leaves) (y c.args.choice c.args.h.now.m))

@@ -1,4 +1,4 @@
--- `store::renew_transfer::turned_row` meets its contract. The rows stand in the lists.
+-- `renew::renew_transfer::turned_row` meets its contract. The rows stand in the lists.
 -- Assumes nothing.
 use Rattle.store.proofs.RenewTransferLaws.{turned_asked, turned_done}
 use Rattle.renew.proofs.renew_transfer.turned_row.Goals as goal

@@ -1,18 +1,14 @@
+-- `store::handed::levels_there` meets its contract.
+use mathlib.Core.Path.{refl, ◌∙◌}
 use native.Mathlib.Omega.{arith}
-use mathlib.Core.Path.{◌≡◌, sym, ◌∙◌}
-use Rattle.store.proofs.HandedLaws.{levels_none, levels_more, levels_stop}
+use Rattle.std.proofs.Common.{rules, tests}
+use Rattle.std.proofs.lemmas.Iterator.{YieldsList-from_range}
+use Rattle.std.proofs.lemmas.Iterator.Search.{all_from_yields_List}
+use Rattle.store.specs.Handed.{level_there}
+use Rattle.store.proofs.HandedLaws.{levels_along}
 use Rattle.store.proofs.handed.levels_there.Goals as goal
-
-pub loop-q-init : goal.loop-q-init
-loop-q-init c = (omega arith, levels_none _)
-
-pub returns-then-not-level_there : goal.returns-then-not-level_there
-returns-then-not-level_there c = levels_stop _ _ _ c.loop-q-test.true (sym c.level_there.ensures ∙ c.if-not-level_there.true)
-
-pub loop-q-preserved : goal.loop-q-preserved
-loop-q-preserved c = (omega arith, levels_more _ _ c.loop-q.invariant.1 (sym c.level_there.ensures ∙ c.if-not-level_there.false))
 
 pub returns : goal.returns
 returns c =
-    let e : c.loop-q.q ≡ c.args.n = omega arith in
-    sym (rw e at c.loop-q.invariant.1)
+    all_from_yields_List (level_there c.args.c) _ _ c.all.result c.all.ensures.ran (YieldsList-from_range _ _ c.args.n refl (omega arith)) (λ x b q k. search (rules, tests))
+    ∙ levels_along _ _

@@ -7,4 +7,4 @@ use Rattle.store.specs.Phases.{blank_line}
 use Rattle.store.proofs.needed.cells_of.Goals as goal
 
 pub returns : goal.returns
-returns c = is_tabulate (line_cells c.args.lines) 36 0 c.map.result c.map.ensures.items.long (λ i b. let w = c.map.ensures.items.at i blank_line 0 b in search rules)
+returns c = is_tabulate (line_cells c.args.lines.now) 36 0 c.map.result c.map.ensures.items.long (λ i b. let w = c.map.ensures.items.at i blank_line 0 b in search rules)

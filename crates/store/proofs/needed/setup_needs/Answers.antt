@@ -1,14 +1,14 @@
 use mathlib.Core.Path.{refl}
 use Rattle.std.proofs.lemmas.Result.{err_from_is_err_and}
 use Rattle.lattice.proofs.CheckLaws.{told, stretches_sound}
-use Rattle.store.specs.Setup.{input_of}
+use Rattle.store.specs.Setup.{input_on}
 use Rattle.store.proofs.NeededLaws.{needs_refused, needs_behind}
 use Rattle.store.proofs.needed.setup_needs.Goals as goal
 
 pub returns-in_err-check_stretches : goal.returns-in_err-check_stretches
 returns-in_err-check_stretches c =
     let p = err_from_is_err_and c.from_residual.result c.from_residual.ensures.1 in
-    rw (p.1, p.2) (needs_refused (input_of c.args.v c.args.xn.now c.args.xh.now c.args.yn.now c.args.yh.now c.args.zn.now c.args.zh.now c.args.choice c.args.coarsest) c.in_err-check_stretches.ensures refl)
+    rw (p.1, p.2) (needs_refused (input_on c.args.v c.args.on.now c.args.choice c.args.coarsest) c.in_err-check_stretches.ensures refl)
 
 pub stretches-st-requires-clause-lengths : goal.stretches-st-requires-clause-lengths
 stretches-st-requires-clause-lengths c = (stretches_sound c.args.v _ _ _ _ _ _ (told c.in_ok-check_stretches.ensures)).1
@@ -16,8 +16,8 @@ stretches-st-requires-clause-lengths c = (stretches_sound c.args.v _ _ _ _ _ _ (
 pub stretches-st-requires-clause-lengths_2 : goal.stretches-st-requires-clause-lengths_2
 stretches-st-requires-clause-lengths_2 c = (stretches_sound c.args.v _ _ _ _ _ _ (told c.in_ok-check_stretches.ensures)).2
 
-pub needed_behind-requires : goal.needed_behind-requires
-needed_behind-requires c = (stretches_sound c.args.v _ _ _ _ _ _ (told c.in_ok-check_stretches.ensures)).0
+pub invariant_of-l : goal.invariant_of-l
+invariant_of-l c = record { limits = (stretches_sound c.args.v _ _ _ _ _ _ (told c.in_ok-check_stretches.ensures)).0 }
 
 pub returns : goal.returns
-returns c = needs_behind (input_of c.args.v c.args.xn.now c.args.xh.now c.args.yn.now c.args.yh.now c.args.zn.now c.args.zh.now c.args.choice c.args.coarsest) c.in_ok-check_stretches.ensures refl c.stretches-st.ensures.1 c.needed_behind.ensures
+returns c = needs_behind (input_on c.args.v c.args.on.now c.args.choice c.args.coarsest) c.in_ok-check_stretches.ensures refl c.stretches-st.ensures.1 c.needed_behind.ensures

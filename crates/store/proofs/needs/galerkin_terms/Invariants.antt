@@ -1,9 +1,9 @@
 -- `store::needs::galerkin_terms` meets its contract.
 -- Assumes nothing.
-use Rattle.lattice.specs.Lattice.{full_lattice}
+use Rattle.store.specs.Hierarchy.{the_lattice}
 use Rattle.store.proofs.NeedLaws.{Totalling}
 use Rattle.store.proofs.needs.galerkin_terms.Given as goal
 
 abbrev pub invariant-loop-level : goal.invariant-loop-level
 invariant-loop-level l =
-    Totalling (full_lattice l.l l.st) l.m l.u l.total l.level
+    Totalling (the_lattice l.h) l.h.m l.u l.total l.level

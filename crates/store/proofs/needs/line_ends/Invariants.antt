@@ -6,4 +6,4 @@ use Rattle.store.proofs.needs.line_ends.Given as goal
 
 abbrev pub invariant-loop-f : goal.invariant-loop-f
 invariant-loop-f l =
-    Summing (ends_in_lem l.fn.lines) l.n l.f-index l.total
+    Summing (ends_in_lem l.fn.h.lines.now) l.n l.f-index l.total

@@ -8,7 +8,7 @@ use Rattle.store.proofs.setup.levels_structure.Goals as goal
 
 pub returns-in-Some : goal.returns-in-Some
 returns-in-Some c =
-    structure_short _ c.requires.limits _ (short_is _ c.requires.limits _ _ _ c.count.ensures c.in-Some.ensures.value) (λ z. omega (arith, c.in-Some.ensures.within))
+    structure_short _ c.args.h.now.l.limits _ (short_is _ c.args.h.now.l.limits _ _ _ c.count.ensures c.in-Some.ensures.value) (λ z. omega (arith, c.in-Some.ensures.within))
 
 pub returns : goal.returns
-returns c = structure_levels _ c.requires.limits _ (short_is _ c.requires.limits _ _ _ c.count.ensures c.in_default.ensures.value) refl
+returns c = structure_levels _ c.args.h.now.l.limits _ (short_is _ c.args.h.now.l.limits _ _ _ c.count.ensures c.in_default.ensures.value) refl

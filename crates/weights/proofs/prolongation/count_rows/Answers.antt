@@ -1,14 +1,8 @@
 use mathlib.Core.Path.{◌∙◌}
-use Rattle.weights.proofs.SlotLaws.{fine_in, coarse_in, values_are}
+use Rattle.weights.proofs.SlotLaws.{fine_in}
 use Rattle.weights.proofs.MeaningLaws.{counts_few, counted}
 use Rattle.weights.proofs.CountLaws.{rows_weigh}
 use Rattle.weights.proofs.prolongation.count_rows.Goals as goal
-
-pub counts-ns-requires-clause-limits : goal.counts-ns-requires-clause-limits
-counts-ns-requires-clause-limits c = coarse_in c.levels_of-t.ensures
-
-pub counts-ns-requires-clause-values_of : goal.counts-ns-requires-clause-values_of
-counts-ns-requires-clause-values_of c = values_are c.levels_of-t.ensures
 
 pub count_all-requires-clause-limits : goal.count_all-requires-clause-limits
 count_all-requires-clause-limits c = fine_in c.levels_of-t.ensures

@@ -8,23 +8,18 @@ use Rattle.weights.proofs.RowLaws.{at_low, columns_most}
 use Rattle.weights.proofs.rows.all_columns.Goals as goal
 
 pub loop-r-init : goal.loop-r-init
-loop-r-init c = (omega (arith, unknowns_most c.requires.limits.0), starting_start, going_start)
+loop-r-init c = (omega (arith, unknowns_most c.requires.limits), starting_start, going_start)
 
-pub columns_at-k-requires-clause-component_bound : goal.columns_at-k-requires-clause-component_bound
-columns_at-k-requires-clause-component_bound c = let l = at_low c.requires.limits.0 (omega arith) c.at.ensures in
-    (l.c_low, l.k_low)
-
-pub columns_at-k-requires-clause-i_bound : goal.columns_at-k-requires-clause-i_bound
-columns_at-k-requires-clause-i_bound c = let l = at_low c.requires.limits.0 (omega arith) c.at.ensures in
-    (l.i_low, l.j_low)
+pub columns_at-k-requires-clause-slots : goal.columns_at-k-requires-clause-slots
+columns_at-k-requires-clause-slots c = at_low c.requires.limits (omega arith) c.at.ensures
 
 pub loop-r-preserved : goal.loop-r-preserved
 loop-r-preserved c =
-    let l = at_low c.requires.limits.0 (omega arith) c.at.ensures in
+    let l = at_low c.requires.limits (omega arith) c.at.ensures in
     let u = c.loop-r.invariant in
     let t = c.loop-r-test.true in
     let e = c.columns_at-k.ensures in
-    let g = going_turn u.2 t c.at.ensures e (columns_most c.requires.places_of _ l.i_low l.j_low l.k_low) in
+    let g = going_turn u.2 t c.at.ensures e (columns_most c.args.t.now.places_of _ l.i_low l.j_low l.k_low) in
     (u.0, starting_turn u.1 g c.push-in-loop-r.ensures, g)
 
 pub returns-clause-starts_after : goal.returns-clause-starts_after

@@ -11,28 +11,28 @@ use Rattle.weights.proofs.RowLaws.{place_on_lem, node_on_lem, few_at, slot_laid,
 use Rattle.weights.proofs.rows.numbers_at.Goals as goal
 
 pub overflow_mul-q : goal.overflow_mul-q
-overflow_mul-q c = let w = few_at c.args.p c.args.p.i c.requires.span_of.places c.slot_on-q.ensures (omega arith) (omega arith) in omega arith
+overflow_mul-q c = let w = few_at c.args.p c.args.p.i c.args.t.now.span_of.places c.slot_on-q.ensures (omega arith) c.requires.slots.i_low in omega arith
 
 pub offset_bounds-t-q : goal.offset_bounds-t-q
-offset_bounds-t-q c = let w = few_at c.args.p c.args.p.i c.requires.span_of.places c.slot_on-q.ensures (omega arith) (omega arith) in omega arith
+offset_bounds-t-q c = let w = few_at c.args.p c.args.p.i c.args.t.now.span_of.places c.slot_on-q.ensures (omega arith) c.requires.slots.i_low in omega arith
 
 pub bounds-t-q : goal.bounds-t-q
-bounds-t-q c = let w = few_at c.args.p c.args.p.i c.requires.span_of.places c.slot_on-q.ensures (omega arith) (omega arith) in omega (arith, c.requires.span_of.places.counts_long)
+bounds-t-q c = let w = few_at c.args.p c.args.p.i c.args.t.now.span_of.places c.slot_on-q.ensures (omega arith) c.requires.slots.i_low in omega (arith, c.args.t.now.span_of.places.counts_long)
 
 pub lay_each-requires-clause-low : goal.lay_each-requires-clause-low
-lay_each-requires-clause-low c = let w = few_at c.args.p c.args.p.i c.requires.span_of.places c.slot_on-q.ensures (omega arith) (omega arith) in omega arith
+lay_each-requires-clause-low c = let w = few_at c.args.p c.args.p.i c.args.t.now.span_of.places c.slot_on-q.ensures (omega arith) c.requires.slots.i_low in omega arith
 
 pub lay_each-requires-clause-callable : goal.lay_each-requires-clause-callable
 lay_each-requires-clause-callable c =
     let t = c.args.t.now in
-    let w = few_at c.args.p c.args.p.i c.requires.span_of.places c.slot_on-q.ensures (omega arith) (omega arith) in (
+    let w = few_at c.args.p c.args.p.i c.args.t.now.span_of.places c.slot_on-q.ensures (omega arith) c.requires.slots.i_low in (
       λ e. numbers_in_y t.span.fine t.span.coarse (read_from t.eps.now t.span.feps) (read_from t.eps.now t.span.ceps) t.places.now t.nodes.now t.counts.now t.pulls.now c.args.p (pull_in t.places.now t.nodes.now t.pulls.now e),
       4,
       search rules,
-      λ e. numbers_y_most c.requires.span_of.places c.args.p _ _ _ _ _ c.requires.i_bound.1 c.requires.component_bound.1 _,
+      λ e. numbers_y_most c.args.t.now.span_of.places c.args.p _ _ _ _ _ c.requires.slots.j_low c.requires.slots.k_low _,
       λ d k xs b l.
-          let h : get_or t.places.now (2 * c.slot_on-q.result + d) 0 < t.span.coarse.nx = rw n_of_0 at (place_on_lem c.requires.span_of.places w.slot b) in
-          let g : get_or t.nodes.now (2 * c.slot_on-q.result + d) 0 < t.span.fine.nx = rw n_of_0 at (node_on_lem c.requires.span_of.nodes w.slot b) in
+          let h : get_or t.places.now (2 * c.slot_on-q.result + d) 0 < t.span.coarse.nx = rw n_of_0 at (place_on_lem c.args.t.now.span_of.places w.slot b) in
+          let g : get_or t.nodes.now (2 * c.slot_on-q.result + d) 0 < t.span.fine.nx = rw n_of_0 at (node_on_lem c.args.t.now.span_of.nodes w.slot b) in
           let o : 2 * c.slot_on-q.result + d < 768 = omega arith in
           let m : k + 4 ≤ 2 ^ 40 = omega arith in
           let low : (z : Pull) → z ≡ pull_in t.places.now t.nodes.now t.pulls.now (2 * c.slot_on-q.result + d) → z.place < t.span.coarse.nx = λ z e. rw e h in
@@ -44,4 +44,4 @@ pub returns : goal.returns
 unfolding numbers_in
 returns c =
     let t = c.args.t.now in
-    slot_laid (numbers_in_y t.span.fine t.span.coarse (read_from t.eps.now t.span.feps) (read_from t.eps.now t.span.ceps) t.places.now t.nodes.now t.counts.now t.pulls.now c.args.p) (pull_in t.places.now t.nodes.now t.pulls.now) t.counts.now c.slot_on-q.ensures (c.lay_each.ensures (λ e. numbers_in_y t.span.fine t.span.coarse (read_from t.eps.now t.span.feps) (read_from t.eps.now t.span.ceps) t.places.now t.nodes.now t.counts.now t.pulls.now c.args.p (pull_in t.places.now t.nodes.now t.pulls.now e)) 4 (search rules) (λ e. numbers_y_most c.requires.span_of.places c.args.p _ _ _ _ _ c.requires.i_bound.1 c.requires.component_bound.1 _))
+    slot_laid (numbers_in_y t.span.fine t.span.coarse (read_from t.eps.now t.span.feps) (read_from t.eps.now t.span.ceps) t.places.now t.nodes.now t.counts.now t.pulls.now c.args.p) (pull_in t.places.now t.nodes.now t.pulls.now) t.counts.now c.slot_on-q.ensures (c.lay_each.ensures (λ e. numbers_in_y t.span.fine t.span.coarse (read_from t.eps.now t.span.feps) (read_from t.eps.now t.span.ceps) t.places.now t.nodes.now t.counts.now t.pulls.now c.args.p (pull_in t.places.now t.nodes.now t.pulls.now e)) 4 (search rules) (λ e. numbers_y_most c.args.t.now.span_of.places c.args.p _ _ _ _ _ c.requires.slots.j_low c.requires.slots.k_low _))

@@ -7,19 +7,19 @@ use Rattle.weights.proofs.rows.weight.Goals as goal
 
 pub overflow_add-s : goal.overflow_add-s
 overflow_add-s c =
-    omega (arith, index_below c.requires.limits.1 c.requires.inside, unknowns_most c.requires.limits.1)
+    omega (arith, index_below c.args.t.now.span_of.coarse_in c.requires.inside, unknowns_most c.args.t.now.span_of.coarse_in)
 
 pub get-eps_c-requires : goal.get-eps_c-requires
 get-eps_c-requires c =
-    omega (arith, index_below c.requires.limits.1 c.requires.inside)
+    omega (arith, index_below c.args.t.now.span_of.coarse_in c.requires.inside)
 
 pub overflow_add-s-2 : goal.overflow_add-s-2
 overflow_add-s-2 c =
-    omega (arith, index_below c.requires.limits.0 c.requires.inside_2, unknowns_most c.requires.limits.0)
+    omega (arith, index_below c.args.t.now.span_of.fine_in c.requires.inside_2, unknowns_most c.args.t.now.span_of.fine_in)
 
 pub get-eps_f-requires : goal.get-eps_f-requires
 get-eps_f-requires c =
-    omega (arith, index_below c.requires.limits.0 c.requires.inside_2)
+    omega (arith, index_below c.args.t.now.span_of.fine_in c.requires.inside_2)
 
 pub returns : goal.returns
 unfolding weight_in edge_at

@@ -5,16 +5,11 @@ use Rattle.weights.proofs.RowLaws.{at_low}
 use Rattle.weights.proofs.RowNumbers.{row_is, row_room, row_finite, row_few}
 use Rattle.weights.proofs.rows.weights_row.Goals as goal
 
-pub numbers_at-last-requires-clause-component_bound : goal.numbers_at-last-requires-clause-component_bound
-numbers_at-last-requires-clause-component_bound c = let l = at_low c.requires.span_of.fine_in c.requires.r_bound c.at.ensures in
-    (l.c_low, l.k_low)
-
-pub numbers_at-last-requires-clause-i_bound : goal.numbers_at-last-requires-clause-i_bound
-numbers_at-last-requires-clause-i_bound c = let l = at_low c.requires.span_of.fine_in c.requires.r_bound c.at.ensures in
-    (l.i_low, l.j_low)
+pub numbers_at-last-requires-clause-slots : goal.numbers_at-last-requires-clause-slots
+numbers_at-last-requires-clause-slots c = at_low c.args.t.now.span_of.fine_in c.requires.r_bound c.at.ensures
 
 pub finite_numbers-requires : goal.finite_numbers-requires
-finite_numbers-requires c = row_room _ _ _ _ _ _ _ _ _ c.at.ensures c.numbers_at-last.ensures (row_few c.requires.span_of.fine_in c.requires.span_of.places c.requires.r_bound) c.requires.at_bound.0 c.requires.at_bound.1
+finite_numbers-requires c = row_room _ _ _ _ _ _ _ _ _ c.at.ensures c.numbers_at-last.ensures (row_few c.args.t.now.span_of.fine_in c.args.t.now.span_of.places c.requires.r_bound) c.requires.at_bound.0 c.requires.at_bound.1
 
 pub returns : goal.returns
 returns c =

@@ -5,4 +5,4 @@ use Rattle.weights.proofs.tables.last_ends.Goals as goal
 
 pub returns : goal.returns
 returns c =
-    last_ends c.args.s c.requires
+    last_ends c.args.s.now c.requires

@@ -2,7 +2,7 @@
 -- Assumes nothing.
 use native.Mathlib.Omega.{arith}
 use lib.ListN.{length-replicate}
-use Rattle.lattice.specs.Lattice.{full_lattice}
+use Rattle.lattice.specs.Sound.{full}
 use Rattle.numbers.proofs.RowLoops.{numbers_start, numbers_whole}
 use Rattle.weights.proofs.TableLaws.{maps_turn}
 use Rattle.weights.proofs.tables.maps.Goals as goal
@@ -10,7 +10,7 @@ use Rattle.weights.proofs.tables.maps.Goals as goal
 pub returns : goal.returns
 returns c =
     let a = c.args in
-    let m = full_lattice a.l a.st.now in
+    let m = full a.l.now in
     numbers_whole
     (maps_turn m 5 (omega arith)
     c.along_map-3.ensures

@@ -9,8 +9,8 @@ use Rattle.weights.proofs.tables.nodes.Goals as goal
 pub returns : goal.returns
 unfolding two_of
 returns c =
-    let p = c.requires in
-    let fine = c.args.fine in
+    let p = c.args.pair.now.paired in
+    let fine = c.args.pair.now.fine in
     nodes_whole
     (nodes_turn 2 fine.z (omega arith) (fine_line_2 _) (coarse_line_2 _) p.coarse_held.z_held
     c.nodes_of-3.ensures

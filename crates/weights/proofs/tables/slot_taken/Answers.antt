@@ -16,7 +16,7 @@ returns-then-i-eq0 c =
     ∙ shares_fixed _ _ _ _ _ _ (omega (arith, c.n.ensures)) (sym c.slot_wall-wall.ensures ∙ c.if-wall.true) c.if-i-eq0.true
 
 pub taken-requires : goal.taken-requires
-taken-requires c = rw c.block.ensures (block_some c.args.q c.requires.limits c.requires.values_of c.requires.q_lt_all_slots)
+taken-requires c = rw c.block.ensures (block_some c.args.q c.args.t.now.limits c.args.t.now.values_of c.requires)
 
 pub returns : goal.returns
 returns c =

@@ -7,9 +7,9 @@ use Rattle.weights.proofs.tables.value_on.Goals as goal
 pub returns-then-i-l : goal.returns-then-i-l
 returns-then-i-l c =
     let a = c.args in
-    c.place.ensures ∙ value_held a.l c.requires a.i a.along c.if-i-l.true
+    c.place.ensures ∙ value_held a.l.now c.requires a.i a.along c.if-i-l.true
 
 pub returns : goal.returns
 returns c =
     let a = c.args in
-    value_none a.l c.requires a.i a.along c.if-i-l.false
+    value_none a.l.now c.requires a.i a.along c.if-i-l.false
