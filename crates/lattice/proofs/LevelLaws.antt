@@ -289,6 +289,14 @@ depth_some l coarsest (suc n) L e = go (stops l coarsest L) e (depth_some l coar
     go true e r = let z : suc L ≡ 0 = cc in omega arith
     go false e r = r e
 
+pub levels_some : (v : Lattice) (xn xh yn yh zn zh : List Float) (coarsest : ℕ) → levels_of v xn xh yn yh zn zh coarsest ≡ accepted 0 → ⊥
+unfolding levels_of depth_of
+levels_some v xn xh yn yh zn zh coarsest = go (check_stretches v xn xh yn yh zn zh)
+  where
+    go : (c : Verdict) → and_then c (depth_from (lattice_of v xn xh yn yh zn zh) coarsest 12 0) ≡ accepted 0 → ⊥
+    go (accepted n) e = depth_some (lattice_of v xn xh yn yh zn zh) coarsest 12 0 e
+    go (refused number place) e = refused_not e
+
 -- ---- there are at most 12 levels
 
 depth_from_lem : (l : FullLattice) (coarsest n L k : ℕ) → depth_from l coarsest n L ≡ accepted k → k ≤ L + n

@@ -1,14 +1,14 @@
 -- Flagged positions: of lists one behind another, of tabulated ones, by members, and the loop that looks for one.
 -- Assumes nothing.
 use Prim.Native.Nat.{ℕ, zero, suc, ◌+◌, ◌-◌, ◌<◌, ◌≤◌}
-use mathlib.Core.Path.{◌≡◌, refl, sym, ◌∙◌}
-use mathlib.Core.Logic.{◌⊎◌, inl, inr}
+use mathlib.Core.Path.{◌≡◌, refl, sym, ap, ◌∙◌}
+use mathlib.Core.Logic.{◌⊎◌, inl, inr, ◌↔◌}
 use mathlib.Core.Bool.{Bool, true, false, false≢true, ◌||◌, or_assoc, or-false}
 use mathlib.Core.List.{List, [], ◌∷◌, ◌++◌}
 use native.Mathlib.Omega.{arith}
 use lib.ListN.{get_or}
 use Rattle.std.proofs.lemmas.Bool.{or_cases, or_left, or_right}
-use Rattle.numbers.specs.Lists.{In, tabulate, any_flag}
+use Rattle.numbers.specs.Lists.{In, tabulate, each, any_flag}
 use Rattle.numbers.proofs.Laws.{or_true, or_false}
 
 pub any_flag_nil : (fs : List Bool) → any_flag fs [] ≡ false
@@ -29,6 +29,16 @@ pub any_flag_append : (fs : List Bool) (cs ds : List ℕ) → any_flag fs (cs ++
 unfolding any_flag
 any_flag_append fs [] ds = refl
 any_flag_append fs (c ∷ cs) ds = rw (any_flag_append fs cs ds) (sym (or_assoc (get_or fs c false) (any_flag fs cs) (any_flag fs ds)))
+
+-- one of the elements gives a flagged position
+unfoldable pub any_gives : {A : Type 0} → List Bool → (A → List ℕ) → List A → Bool
+any_gives fs f [] = false
+any_gives fs f (x ∷ xs) = any_flag fs (f x) || any_gives fs f xs
+
+pub any_flag_each : {A : Type 0} (fs : List Bool) (f : A → List ℕ) (xs : List A) → any_flag fs (each f xs) ≡ any_gives fs f xs
+unfolding any_flag each any_gives
+any_flag_each fs f [] = refl
+any_flag_each fs f (x ∷ xs) = any_flag_append fs (f x) (each f xs) ∙ ap (λ (b : Bool). any_flag fs (f x) || b) (any_flag_each fs f xs)
 
 module _ (fs : List Bool) (f : ℕ → ℕ) where
   pub any_flag_tabulate_zero : (k : ℕ) → any_flag fs (tabulate f zero k) ≡ false
@@ -60,6 +70,15 @@ any_flagged fs (d ∷ ds) h = go (any_flagged fs ds) (or_cases (get_or fs d fals
     go : (any_flag fs ds ≡ true → Flagged fs ds) → (get_or fs d false ≡ true) ⊎ (any_flag fs ds ≡ true) → Flagged fs (d ∷ ds)
     go ih (inl e) = record { place = d; there = inl refl; flag = e }
     go ih (inr e) = let g = ih e in record { place = g.place; there = inr g.there; flag = g.flag }
+
+pub any_flag_members : (fs : List Bool) (cs : List ℕ) → (any_flag fs cs ≡ true) ↔ Flagged fs cs
+any_flag_members fs cs = (any_flagged fs cs, λ g. flagged_any fs cs g.place g.there g.flag)
+
+-- it is enough to know the flags of the members
+pub any_flag_agree : (fs gs : List Bool) (cs : List ℕ) → ((c : ℕ) → In c cs → get_or fs c false ≡ get_or gs c false) → any_flag fs cs ≡ any_flag gs cs
+unfolding any_flag
+any_flag_agree fs gs [] h = refl
+any_flag_agree fs gs (c ∷ cs) h = λ i. h c (inl refl) i || any_flag_agree fs gs cs (λ d j. h d (inr j)) i
 
 -- ---- a loop over positions, f first, f (first + 1), .., m of n seen
 

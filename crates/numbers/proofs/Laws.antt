@@ -12,6 +12,7 @@ use lib.ListN.{length, set, length-set}
 use lib.Seq.{get_or-set_same, get_or-set_other}
 use lib.Ieee.{Float, nan, inf, fin}
 use Rattle.std.specs.Float.{float_is_finite}
+use Rattle.std.proofs.lemmas.Bool.{and_parts}
 use Rattle.numbers.specs.declared.C64.{C64}
 use Rattle.numbers.specs.Complex.{no_number, finite_double, finite}
 use Rattle.numbers.specs.Places.{places, number_at, set_number, found_at}
@@ -59,6 +60,10 @@ finite_is (fin s m e) h = (s, m, e, refl)
 pub finite_both : (x : C64) → finite x ≡ (finite_double x.re && finite_double x.im)
 unfolding finite
 finite_both x = refl
+
+pub finite_parts : (x : C64) → finite x ≡ true → (finite_double x.re ≡ true) × (finite_double x.im ≡ true)
+unfolding finite
+finite_parts x h = and_parts (finite_double x.re) (finite_double x.im) h
 
 -- ---- a list of doubles
 

@@ -5,7 +5,7 @@ use mathlib.Core.Path.{◌≡◌, refl, sym, ◌∙◌}
 use mathlib.Core.List.{List, []}
 use mathlib.Core.Bool.{Bool, true, false}
 use native.Mathlib.Omega.{arith}
-use native.Mathlib.Decide.{ℕ_discrete}
+use native.Mathlib.Decide.{ℕ_discrete, dec_lt}
 use native.Mathlib.Numerals.{add-one}
 use lib.ListN.{length, get_or, set, take, drop, length-set}
 use Rattle.lattice.specs.declared.grid.Grid3d.{Grid3d}
@@ -13,7 +13,7 @@ use Rattle.lattice.specs.declared.grid.Position.{Position}
 use Rattle.numbers.specs.Lists.{tabulate, laid, entry_at}
 use Rattle.numbers.proofs.TabulateLaws.{length_tabulate, tabulate_at_0}
 use Rattle.numbers.proofs.RowLoops.{Spread, spread_start, spread_turn, spread_end}
-use Rattle.numbers.proofs.ListLaws.{laid_length, laid_before, laid_at}
+use Rattle.numbers.proofs.ListLaws.{laid_length, laid_before, laid_at, laid_behind}
 use Rattle.operators.specs.Columns.{keep, row, Listed}
 use Rattle.operators.proofs.ComposeLaws.{composed_cut}
 use Rattle.operators.specs.declared.columns.Picks.{Picks}
@@ -67,6 +67,18 @@ module _ (w : ℕ → List ℕ) where
           → get_or (laid (relations_laid w m xs) (64 * m) (w m)) (64 * q + i) 0 ≡ get_or (w q) i 0
       go (yes e) before = rw e (laid_at (relations_laid w m xs) (64 * m) (w m) i (rw e at b) (omega (arith, relations_length m xs, few m (omega arith))))
       go (no e) before = laid_before (relations_laid w m xs) (64 * m) (w m) (64 * q + i) (omega (arith, few q h)) ∙ before (omega arith)
+
+  -- behind them the list is as it was
+  pub relation_rest : (m : ℕ) (xs : List ℕ) → ((q : ℕ) → q < m → length (w q) ≤ 64) → (q i : ℕ) → length (w q) ≤ i → i < 64
+      → get_or (relations_laid w m xs) (64 * q + i) 0 ≡ get_or xs (64 * q + i) 0
+  unfolding relations_laid
+  relation_rest zero xs few q i b h = refl
+  relation_rest (suc m) xs few q i b h = go (ℕ_discrete q m) (dec_lt q m) ∙ relation_rest m xs (λ p o. few p (omega arith)) q i b h
+    where
+      go : Dec (q ≡ m) → Dec (q < m) → get_or (laid (relations_laid w m xs) (64 * m) (w m)) (64 * q + i) 0 ≡ get_or (relations_laid w m xs) (64 * q + i) 0
+      go (yes e) d = rw e (laid_behind (relations_laid w m xs) (64 * m) (w m) (64 * m + i) (let o : length (w m) ≤ i = rw e at b in omega arith))
+      go (no e) (yes d) = laid_before (relations_laid w m xs) (64 * m) (w m) (64 * q + i) (omega arith)
+      go (no e) (no d) = laid_behind (relations_laid w m xs) (64 * m) (w m) (64 * q + i) (omega (arith, few m (omega arith)))
 
   pub relations_agree : (v : ℕ → List ℕ) (m : ℕ) (xs : List ℕ) → ((q : ℕ) → q < m → w q ≡ v q) → relations_laid w m xs ≡ relations_laid v m xs
   unfolding relations_laid

@@ -18,12 +18,14 @@ use Rattle.numbers.proofs.MemberLaws.{all_in}
 use Rattle.numbers.proofs.TabulateLaws.{length_tabulate, tabulate_at_0, tabulate_agree}
 use Rattle.numbers.proofs.Tutorial.{numbers_rows, turned_local, turned_columns_lem}
 use Rattle.lattice.specs.declared.grid.Position.{Position}
+use Rattle.lattice.specs.declared.levels.Three.{Three}
 use Rattle.lattice.specs.Grid.{n_of, place_on, at_of, Limits, Inside}
 use Rattle.lattice.specs.Lattice.{FullLattice}
 use Rattle.lattice.proofs.GridLaws.{place_inside, moved_inside, index_below, at_inside, unknowns_most}
 use Rattle.weights.specs.CoarseEps.{on_fine, edge_along, edges_along, cell_edges, eps_reads, coarse_eps}
 use Rattle.weights.specs.Prolongation.{weight_columns, weight_numbers, weight_reads, prolongation_row}
-use Rattle.weights.specs.TwoLevels.{TwoLevels, fine_cells, coarse_cells, node_on, grid_with, fine_grid, coarse_grid, two_at}
+use Rattle.weights.specs.Tables.{Paired}
+use Rattle.weights.specs.TwoLevels.{TwoLevels, fine_cells, coarse_cells, node_on, grid_with, fine_grid, coarse_grid, two_at, two_of}
 use Rattle.weights.specs.Whole.{fine_edges, coarse_edges, weights_in, eps_of, all_weights, WholeRoom, WholeLeft, whole_finite}
 use Rattle.numbers.specs.declared.terms.Part.{Part}
 use Rattle.weights.proofs.PairLaws.{fine_limits, coarse_limits, nested_at, ended_at}
@@ -45,6 +47,10 @@ pub record Nested (t : TwoLevels) : Type 0 where
 pub nested_levels : (l : FullLattice) → Limits l.grid → (L : ℕ) → Nested (two_at l L)
 nested_levels l limits L =
     record { fine_limits = fine_limits l limits L; coarse_limits = coarse_limits l limits L; nested = nested_at l limits L; ended = ended_at l limits L }
+
+-- and two levels that the code of a transfer asks for
+pub paired_nested : {l : FullLattice} {fine coarse : Three} → Paired l fine coarse → Nested (two_of l fine coarse)
+paired_nested p = record { fine_limits = p.fine_limits; coarse_limits = p.coarse_limits; nested = p.nested; ended = p.ended }
 
 module _ {t : TwoLevels} (u : Nested t) where
   -- ---- ranges

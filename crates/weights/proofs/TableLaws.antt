@@ -33,13 +33,14 @@ use Rattle.lattice.proofs.LineLaws.{length_ends, ends_at, length_nodes}
 use Rattle.numbers.proofs.TabulateLaws.{is_tabulate, length_tabulate, tabulate_at}
 use Rattle.weights.specs.declared.interpolate.Share.{Share}
 use Rattle.weights.specs.TwoLevels.{TwoLevels, fine_line, coarse_line, node_on}
-use Rattle.weights.specs.Interpolate.{share_place, share_weight, share_term, shares_in, kept_shares}
+use Rattle.weights.specs.Interpolate.{share_place, share_weight, share_term, shares_in, kept_shares, taken_places}
 use Rattle.weights.proofs.InterpolateLaws.{places_taken, terms_taken}
-use Rattle.weights.specs.Product.{walled}
+use Rattle.weights.specs.Product.{walled, kept_places}
 use Rattle.weights.specs.Tables.{slot_axis, slot_along, slot_place, slot_wall, slot_block, slot_taken, slot_pulled, slot_shares, slot_ratio, entry_share, lines_in, value_entry, end_no, node_no, map_no, map_in, count_from, place_from, pull_from, HeldThree, ValuesOf}
 use Rattle.numbers.proofs.ListLaws.{laid_length, laid_before, laid_at}
 use Rattle.numbers.proofs.Equations.{tabulate_zero, tabulate_suc, laid_by_nil, laid_by_cons}
 use Rattle.numbers.proofs.CopyLaws.{laid_part}
+use Rattle.weights.proofs.ProductLaws.{taken_most, kept_most}
 use Rattle.weights.proofs.Equations.{lines_in_0, lines_in_1, lines_in_2}
 use Rattle.numbers.proofs.RowLoops.{NumbersTo, numbers_laid}
 use Rattle.lattice.proofs.NestLaws.{map_long}
@@ -262,6 +263,28 @@ module _ (l : FullLattice) (gf gc : Grid3d) (fs cs : List ℕ) (q : ℕ) where
       (ltb (slot_place q) (n_of gf (slot_axis q)))
       (slot_wall l q && eqb (slot_place q) 0)
       (terms_taken (slot_wall l q) (edges_of l (slot_axis q)) (map_in xs (q / 64)) (slot_block gc cs q) (get_or es (slot_axis q) 0) (slot_along q) (get_or fs q 0))
+
+-- ---- a slot takes at most two
+
+pub taken_few : (l : FullLattice) (gf gc : Grid3d) (fs cs : List ℕ) (q : ℕ) → length (slot_taken l gf gc fs cs q) ≤ 2
+unfolding slot_taken
+taken_few l gf gc fs cs q = go (ltb (slot_place q) (n_of gf (slot_axis q))) (slot_wall l q && eqb (slot_place q) 0)
+  where
+    e : Edges
+    e = edges_of l (slot_axis q)
+
+    bs : List ℕ
+    bs = slot_block gc cs q
+
+    go : (a b : Bool) → length (cond a (cond b [] (kept_places (slot_wall l q) (taken_places e bs (slot_along q) (get_or fs q 0)))) []) ≤ 2
+    go false b = omega arith
+    go true true = omega arith
+    go true false =
+        omega (
+          arith,
+          kept_most (slot_wall l q) (taken_places e bs (slot_along q) (get_or fs q 0)),
+          taken_most e bs (slot_along q) (get_or fs q 0),
+        )
 
 -- ---- what is read of the entries
 
