@@ -11,16 +11,18 @@ use lib.Dec.{eqb, ltb}
 use lib.ListN.{length, take, drop}
 use lib.Ieee.{Float, binary64, nan_bits, of_bits, of_fields}
 use mathlib.Core.Logic.{◌⊎◌}
-use Rattle.std.specs.Prelude.{min, Option, Some, None, MatchOption, unwrap_or, slice_range}
+use Rattle.std.specs.Prelude.{min, Option, Some, None, Ok, MatchOption, unwrap_or, slice_range}
 use Rattle.std.proofs.Common.{Bor}
 use Rattle.lattice.specs.Check.{Verdict, accepted, refused, refusal_of, check_grid}
 use Rattle.lattice.specs.declared.check.Refusal.{Refusal}
 use Rattle.lattice.proofs.CheckLaws.{hands_on, goes_on}
 use Rattle.programs.specs.Bytes.{double_of}
 use Rattle.programs.specs.Records.{byte_of, has_byte, grid_of, cell_count, stretch_count, edge_count, cut_of}
-use Rattle.programs.specs.Reading.{told, told_by, grid_verdict}
+use Rattle.programs.specs.Reading.{told, told_by, whole, grid_verdict}
 use Rattle.programs.specs.declared.kinds.Kind.{Kind}
 use Rattle.programs.specs.declared.kinds.Kind.TheVariants.{Grid, Wall, Bloch, Stretch, Permittivity, Choice, Change, End}
+use Rattle.programs.specs.declared.reader.Begun.{Begun}
+use Rattle.programs.specs.declared.reader.Reader.{Reader}
 
 -- ---- kinds by their bytes
 
@@ -92,6 +94,13 @@ double_is b = go (nan_bits binary64 b) refl
     go true e =
         let p = both_true (eqb (b % 2 ^ 63 / 2 ^ 52) 2047) (not (eqb (b % 2 ^ 52) 0)) e in
         rw (e, eqb-true (b % 2 ^ 63 / 2 ^ 52) 2047 p.0, not-true (eqb (b % 2 ^ 52) 0) p.1) refl
+
+-- ---- the body is whole: not where nothing of it is read
+
+module _ (r : Reader) {n : ℕ} (e : r.answer ≡ Ok n) {o : Begun} (i : r.begun ≡ Some o) where
+  pub whole_none : o.filled ≡ 0 → None ≡ whole r
+  unfolding whole
+  whole_none z = rw (e, i, le-ltb 0 o.filled (omega arith)) refl
 
 -- ---- the grid
 

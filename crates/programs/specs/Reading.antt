@@ -1,6 +1,6 @@
 -- The reading of a file byte by byte (docs/SPECIFICATION.md, 13): the machine, and what it answers at the end of the file. The first refusal ends the reading.
 -- Assumes nothing.
-use Rattle.std.specs.Prelude.{ℕ, ◌+◌, ◌*◌, ◌||◌, cond, Option, Some, None, Result, Ok, Err, List, [], ◌∷◌, eqb, ltb, length, get_or, set, replicate, Float}
+use Rattle.std.specs.Prelude.{ℕ, ◌+◌, ◌*◌, ◌&&◌, ◌||◌, cond, Option, Some, None, Result, Ok, Err, List, [], ◌∷◌, eqb, ltb, length, get_or, set, replicate, Float}
 use Rattle.numbers.specs.Places.{set_number}
 use Rattle.lattice.specs.Check.{Verdict, accepted, refused, and_then, check_grid}
 use Rattle.lattice.specs.declared.lattice.Edges.{Edges}
@@ -125,9 +125,9 @@ stepped_by (Ok n) r b = cond (eqb r.at last_offset) (out_of_turn r r.at) (byte_r
 unfoldable pub stepped : Reader → ℕ → Reader
 stepped r b = stepped_by r.answer r b
 
--- the body of a record, where it has all its bytes
+-- the body of a record, where it has all its bytes, and one at least, so that a record is due
 abbrev pub whole_by : Result ℕ Told → Option Begun → ℕ → Option Begun
-whole_by (Ok n) (Some o) size = cond (eqb o.filled size) (Some o) None
+whole_by (Ok n) (Some o) size = cond (ltb 0 o.filled && eqb o.filled size) (Some o) None
 whole_by a o size = None
 
 unfoldable pub whole : Reader → Option Begun

@@ -221,7 +221,7 @@ pub fn whole(r: Reader) -> Option<Begun>
         return None;
     }
     let o = r.begun?;
-    if o.filled == records::size_due(r.seen) {
+    if 0 < o.filled && o.filled == records::size_due(r.seen) {
         return Some(o);
     }
     None
