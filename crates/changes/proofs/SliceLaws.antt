@@ -10,6 +10,7 @@ use Rattle.numbers.specs.Lists.{entry_at, places_in}
 use Rattle.numbers.proofs.TabulateLaws.{length_tabulate, tabulate_at_0}
 use Rattle.store.specs.Calls.{matches}
 use Rattle.store.specs.Compare.{BeginsTo, Begins}
+use Rattle.store.proofs.MatchLaws.{matches_part}
 
 module _ (cs : List ℕ) (k n : ℕ) where
   -- place i of the n from place k on
@@ -18,15 +19,6 @@ module _ (cs : List ℕ) (k n : ℕ) where
 
   pub part_long : k + n ≤ length cs → length (take ((k + n) - k) (drop k cs)) ≡ n
   part_long h = omega (arith, length-take ((k + n) - k) (drop k cs), length-drop k cs)
-
--- values in a list, as a part of it
-matches_part : (cs : List ℕ) (k : ℕ) (vs : List ℕ) → k + length vs ≤ length cs → matches cs k vs ≡ pointwise eqb (take (length vs) (drop k cs)) vs
-unfolding matches
-matches_part cs k [] h = refl
-matches_part cs k (v ∷ vs) h =
-    let b : k < length cs = omega arith in
-    let d = drop-cons cs k 0 b in
-    rw (d, matches_part cs (suc k) vs (omega arith)) refl
 
 -- the first n of a list
 first_places : (row : List ℕ) (n : ℕ) → n ≤ length row → places_in row 0 n ≡ take n row

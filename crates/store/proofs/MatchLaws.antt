@@ -9,7 +9,10 @@ use native.Mathlib.Omega.{arith}
 use lib.Dec.{eqb}
 use lib.ListN.{length, get_or, set}
 use lib.Seq.{ext_get_or}
+use lib.Pointwise.{pointwise}
 use borrow.Author.Tests.{eq-eqb, eqb-true, eqb-false}
+use Rattle.std.proofs.Common.{take, drop}
+use Rattle.std.proofs.Math.Seq.{drop-cons}
 use Rattle.std.proofs.lemmas.Bool.{and_from, cases_Bool, false_from_ne_true, and_parts}
 use Rattle.numbers.specs.declared.terms.Part.{Part}
 use Rattle.numbers.specs.Lists.{rows, Laid, start_of, starts_of, entry_at, places_in}
@@ -39,6 +42,15 @@ matches_told cs k (v ∷ vs) h zero i e b =
     let z : i ≡ k = omega arith in
     rw z (eqb-true (get_or cs k 0) v (and_parts (eqb (get_or cs k 0) v) (matches cs (suc k) vs) h).0)
 matches_told cs k (v ∷ vs) h (suc j) i e b = matches_told cs (suc k) vs (and_parts (eqb (get_or cs k 0) v) (matches cs (suc k) vs) h).1 j i (omega arith) (omega arith)
+
+-- as a part of the list
+pub matches_part : (cs : List ℕ) (k : ℕ) (vs : List ℕ) → k + length vs ≤ length cs → matches cs k vs ≡ pointwise eqb (take (length vs) (drop k cs)) vs
+unfolding matches
+matches_part cs k [] h = refl
+matches_part cs k (v ∷ vs) h =
+    let b : k < length cs = omega arith in
+    let d = drop-cons cs k 0 b in
+    rw (d, matches_part cs (suc k) vs (omega arith)) refl
 
 -- it is read back
 pub matches_places : (cs : List ℕ) (k : ℕ) (vs : List ℕ) → matches cs k vs ≡ true → places_in cs k (length vs) ≡ vs

@@ -4,7 +4,6 @@ ghost use Rattle.std.specs.Prelude.{◌≤◌, ◌^◌, set};
 ghost use Rattle.numbers.specs.Lists.{Laid};
 ghost use Rattle.store.specs.PhaseSteps.{held_by, FewCells, EndsLaid};
 
-use crate::hierarchy::Hierarchy;
 use lattice::line::Line;
 use numbers::lists;
 
@@ -22,12 +21,12 @@ fn lay_line(f: Line, ends: &mut [usize], k: usize) -> usize
 }
 
 // The ends of the lines of levels 0 to m, one line behind another.
-pub fn lay_ends(h: &Hierarchy<'_>, ends: &mut [usize])
-    requires { FewCells h.now.lines.now h.now.m }
-    ensures { EndsLaid h.now.lines.now h.now.m ends.old ends.new }
+pub fn lay_ends(lines: &[Line; 36], m: usize, ends: &mut [usize])
+    requires m_bound { m ≤ 11 }
+    requires few_cells { FewCells lines.now m }
+    ensures { EndsLaid lines.now m ends.old ends.new }
 {
-    let n = 3 * (h.m + 1);
-    let lines = h.lines;
+    let n = 3 * (m + 1);
     let mut next = 0;
     for f in &lines[..n] {
         next = lay_line(*f, ends, next);

@@ -17,6 +17,17 @@ use numbers::terms::Part;
 use weights::pair::Pair;
 use weights::tables;
 
+// The lines of a level.
+pub fn three(lines: &[Line; 36], level: usize) -> Three
+    requires { level < 12 }
+    ensures { result ≡ three_in lines.now level }
+{
+    let x = lines[3 * level];
+    let y = lines[3 * level + 1];
+    let z = lines[3 * level + 2];
+    Three { x, y, z }
+}
+
 // The edges of three lines.
 pub fn edges(l: Lattice, s: Three) -> usize
     requires { Limits (grid_with l.grid s.x.cells s.y.cells s.z.cells) }
@@ -31,10 +42,7 @@ impl Hierarchy<'_> {
         requires { level < 12 }
         ensures { result ≡ three_in self.now.lines.now level }
     {
-        let x = self.lines[3 * level];
-        let y = self.lines[3 * level + 1];
-        let z = self.lines[3 * level + 2];
-        Three { x, y, z }
+        three(self.lines, level)
     }
 
     // A level and the next.

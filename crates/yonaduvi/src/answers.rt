@@ -1,6 +1,6 @@
 // What the calls leave in the lists that they are lent. What would lie past the end of a list is left out.
 
-ghost use Rattle.std.specs.Prelude.{◌≡◌, ℕ, List, Err, [], ◌∷◌, ◌≤◌, length};
+ghost use Rattle.std.specs.Prelude.{◌≡◌, [], ◌∷◌, ◌≤◌, length};
 ghost use Rattle.numbers.specs.Lists.{laid};
 ghost use Rattle.store.specs.Steps.{answer_of};
 ghost use Rattle.yonaduvi.specs.Exports.{list_left, needs_words};
@@ -27,13 +27,15 @@ pub fn put(list: &mut [usize], values: &[usize])
     }
 }
 
-// What a refusal leaves in a list: refusals 1 to 4 what stood there, the others zero in every place.
-pub fn leave(r: Refusal, list: &mut [usize])
-    ensures { (vs : List ℕ) → list.new ≡ list_left (answer_of (Err r)) list.old vs }
+// What an answer leaves in a list: the values, or what stood there (refusals 1 to 4), or zero in every place.
+pub fn leave(a: Result<usize, Refusal>, list: &mut [usize], values: &[usize])
+    requires { length values.now ≤ 64 }
+    ensures { list.new ≡ list_left (answer_of a) list.old values.now }
 {
-    match r {
-        Refusal::Input(_) => {}
-        _ => list.fill(0),
+    match a {
+        Ok(_) => put(list, values),
+        Err(Refusal::Input(_)) => {}
+        Err(_) => list.fill(0),
     }
 }
 

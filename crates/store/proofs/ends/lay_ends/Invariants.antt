@@ -8,4 +8,4 @@ use Rattle.store.specs.PhaseSteps.{held_by}
 use Rattle.store.proofs.ends.lay_ends.Given as goal
 
 abbrev pub invariant-loop-f : goal.invariant-loop-f
-invariant-loop-f l = Laying set (λ q. held_by (get_or l.fn.h.lines.now q blank_line)) (3 * (l.fn.h.m + 1)) 0 l.initial.ends l.ends l.next l.f-index
+invariant-loop-f l = Laying set (λ q. held_by (get_or l.lines q blank_line)) (3 * (l.m + 1)) 0 l.initial.ends l.ends l.next l.f-index

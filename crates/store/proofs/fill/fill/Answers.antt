@@ -4,8 +4,8 @@ use Rattle.store.proofs.ShortLaws.{transfer_room}
 use Rattle.store.proofs.FillLaws.{ready_of, chosen_room_after, scaling_asked_of, codes_low, fill_is}
 use Rattle.store.proofs.fill.fill.Goals as goal
 
-pub lay_ends-requires : goal.lay_ends-requires
-lay_ends-requires c = few_cells c.args.h.now.has_lines c.args.h.now.l.limits
+pub lay_ends-requires-clause-few_cells : goal.lay_ends-requires-clause-few_cells
+lay_ends-requires-clause-few_cells c = few_cells c.args.h.now.has_lines c.args.h.now.l.limits
 
 pub transfers-a-requires-clause-transfer_room : goal.transfers-a-requires-clause-transfer_room
 transfers-a-requires-clause-transfer_room c = transfer_room _ _ _ (store_of c.args.lists.now) c.requires.enough
