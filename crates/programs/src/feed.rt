@@ -155,6 +155,10 @@ pub fn feed(
 {
     let mut u = r;
     for &b in piece {
+        // Behind a refusal no byte brings anything about.
+        if let Err(_) = u.answer {
+            return u;
+        }
         u = feed_byte(u, limit, b, held, lists);
     }
     u

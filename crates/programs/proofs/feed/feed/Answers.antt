@@ -1,11 +1,12 @@
 -- `programs::feed::feed` meets its contract.
 -- Assumes nothing.
-use mathlib.Core.Path.{refl, ◌∙◌}
+use mathlib.Core.Path.{refl, sym, ◌∙◌}
 use native.Mathlib.Omega.{arith}
+use lib.ListN.{drop}
 use Rattle.store.specs.Lists.{store_of}
 use Rattle.programs.specs.Reading.{machine}
 use Rattle.programs.proofs.MachineLaws.{same_lists, still_same}
-use Rattle.programs.proofs.Pieces.{fed_turn, fed_end}
+use Rattle.programs.proofs.Pieces.{fed_refused, fed_turn, fed_end}
 use Rattle.programs.proofs.feed.feed.Goals as goal
 
 pub loop-b-init : goal.loop-b-init
@@ -20,6 +21,12 @@ loop-b-preserved c =
       same = still_same l.invariant.same c.feed_byte-u.ensures.same;
       room = c.feed_byte-u.auto.held ∙ l.invariant.room;
     }
+
+pub returns-in-Err-clause-left : goal.returns-in-Err-clause-left
+returns-in-Err-clause-left c =
+    let a = c.args in
+    let l = c.loop-b in
+    sym (fed_refused a.limit (machine l.u l.held (store_of l.lists)) (drop l.b-index a.piece.now) c.in-Err.is) ∙ l.invariant.left
 
 pub returns-clause-left : goal.returns-clause-left
 returns-clause-left c =
