@@ -338,6 +338,10 @@ copied_front xs ys n (suc k) o h g =
 pub copied_is : (xs ys : List Float) (n : ℕ) → 2 * n ≤ length xs → 2 * n ≤ length ys → take (2 * n) xs ++ drop (2 * n) ys ≡ laid_numbers ys 0 (tabulate (number_at xs) n 0)
 copied_is xs ys n h g = placing_end (copied_front xs ys n n (omega arith) h g) (omega arith)
 
+-- a number laid at the front
+pub placing_front : {f : ℕ → C64} {n : ℕ} {xs : List Float} {k : ℕ} {ys zs : List Float} {v : C64} → Placing f n 0 xs ys k → k < n → v ≡ f k → zs ≡ set_number ys k v → Placing f n 0 xs zs (k + 1)
+placing_front {k = k} p h e q = let z : 0 + k ≡ k = omega arith in placing_turn p h e (rw z q)
+
 -- what the given permittivities ask for
 pub given_ready : (l : FullLattice) → Limits l.grid → (m : ℕ) (given : List Float) {n : ℕ} {eps : List Float} {ss cs : List ℕ} {xs : List Float} {ts us : List ℕ} {ys : List Float} → n ≡ edges_on l 0
     → 2 * edges_on l 0 ≤ length given → TransferRoom l m eps ss cs xs ts us ys → (n ≤ 12288) × (2 * n ≤ length given) × (2 * n ≤ length eps)

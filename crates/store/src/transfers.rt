@@ -74,7 +74,10 @@ fn lay_given(given: &[f64], n: usize, eps: &mut [f64])
     requires { (n ≤ 12288) × (2 * n ≤ length given.now) × (2 * n ≤ length eps.old) }
     ensures { eps.new ≡ laid_numbers eps.old 0 (tabulate (number_at given.now) n 0) }
 {
-    eps[..2 * n].copy_from_slice(&given[..2 * n]);
+    // An index: a number is two doubles of either list. `copy_from_slice` asks whoever links the library for C for `memmove`.
+    for k in 0..n {
+        numbers::put(eps, k, numbers::get(given, k));
+    }
 }
 
 // The transfer from level `level` + 1 to `level`: the permittivities of the coarse level, the forward rows and the turned rows. Whether all is finite.

@@ -51,6 +51,17 @@ left_other (Twice level) xs vs n = refl
 left_other (Short list) xs vs n = refl
 left_other (NotFinite level) xs vs n = refl
 
+-- a refusal leaves the same, whichever values there are
+any_values : (r : Refusal) (xs vs ws : List ℕ) → list_left (answer_of (Err r)) xs vs ≡ list_left (answer_of (Err r)) xs ws
+any_values (OfInput (Cells place)) xs vs ws = refl
+any_values (OfInput (Scalar place)) xs vs ws = refl
+any_values (OfInput (Length place)) xs vs ws = refl
+any_values (OfInput (Entry place)) xs vs ws = refl
+any_values TooMany xs vs ws = refl
+any_values (Twice level) xs vs ws = refl
+any_values (Short list) xs vs ws = refl
+any_values (NotFinite level) xs vs ws = refl
+
 told_left : (v : Verdict) (out : List ℕ) {t : Told} → t ≡ told_by v → {out' : List ℕ} → out' ≡ laid out 0 (t.number ∷ (t.place ∷ [])) → out' ≡ answered v out
 told_left v out e o = o ∙ ap (λ (u : Told). laid out 0 (u.number ∷ (u.place ∷ []))) e ∙ answered_is v out
 
@@ -97,7 +108,7 @@ module _ (cells : List ℕ) (scalars xn xh yn yh zn zh : List Float) (choice : �
   -- where it is refused
   pub needs_refused : {e : Refusal} → NeededOf (full_of (input_of v xn xh yn yh zn zh ch coarsest)) ch (transfers_of (input_of v xn xh yn yh zn zh ch coarsest)) (needed_verdict (input_of v xn xh yn yh zn zh ch coarsest)) (Err e)
       → {t : Told} → t ≡ told_by (answer_of (Err e)) → {out needs counts out' needs' counts' : List ℕ} → out' ≡ laid out 0 (t.number ∷ (t.place ∷ []))
-      → ((vs : List ℕ) → needs' ≡ list_left (answer_of (Err e)) needs vs) → ((vs : List ℕ) → counts' ≡ list_left (answer_of (Err e)) counts vs)
+      → needs' ≡ list_left (answer_of (Err e)) needs [] → counts' ≡ list_left (answer_of (Err e)) counts []
       → NeedsLeft own out needs counts out' needs' counts'
   needs_refused {e} d p {out = out} {needs = needs} {counts = counts} o k c =
       let u : answer_of (Err e) ≡ needed_verdict own = (found d).answer_is in
@@ -105,8 +116,8 @@ module _ (cells : List ℕ) (scalars xn xh yn yh zn zh : List Float) (choice : �
       let words = cells_words (cells_of (full_of own) (transfers_of own)) in
       record {
         answer_left = told_left (answer_of (Err e)) out p o ∙ ap (λ v. answered v out) u;
-        needs_left = k places ∙ ap (λ v. list_left v needs places) u;
-        counts_left = c words ∙ ap (λ v. list_left v counts words) u;
+        needs_left = k ∙ any_values e needs [] places ∙ ap (λ v. list_left v needs places) u;
+        counts_left = c ∙ any_values e counts [] words ∙ ap (λ v. list_left v counts words) u;
       }
 
 -- ---- a file
