@@ -1,7 +1,7 @@
 // The words of a line: what stands between its spaces. Behind the first, which says what the line is, N*W is N times W, and numbers are hexadecimal.
 
-ghost use Rattle.std.specs.Prelude.{◌≡◌, ◌+◌, ◌*◌, ◌%◌, ◌^◌, ◌<◌, ◌==◌, MatchOption, length, min};
-ghost use Rattle.std.specs.List.{before_first, after_first, position_or_len};
+ghost use Rattle.std.specs.Prelude.{◌≡◌, ◌*◌, ◌%◌, ◌^◌, ◌<◌, ◌==◌, MatchOption, length, min, not, bit_or};
+ghost use Rattle.std.specs.List.{before_first, after_first, position_or_len, before_last, after_last, suffix_len};
 ghost use Rattle.case_lines.specs.Words.{is_space, digit, number_of, word_of, words_of, numbers_in, laid};
 
 // What stands before the first such byte, and what stands behind it.
@@ -10,6 +10,15 @@ fn split_once(text: &[u8], at: u8) -> Option<(&[u8], &[u8])>
         (λ r. (p < length text.now) × (r.0.now ≡ before_first (λ b. b == at) text.now) × (r.1.now ≡ after_first (λ b. b == at) text.now)) }
 {
     let k = text.iter().position(|b| *b == at)?;
+    Some((&text[..k], &text[k + 1..]))
+}
+
+// What stands before the last such byte, and what stands behind it.
+fn rsplit_once(text: &[u8], at: u8) -> Option<(&[u8], &[u8])>
+    ensures { let n = suffix_len (λ b. not (b == at)) text.now in MatchOption result (n ≡ length text.now)
+        (λ r. (n < length text.now) × (r.0.now ≡ before_last (λ b. b == at) text.now) × (r.1.now ≡ after_last (λ b. b == at) text.now)) }
+{
+    let k = text.iter().rposition(|b| *b == at)?;
     Some((&text[..k], &text[k + 1..]))
 }
 
@@ -22,22 +31,22 @@ pub fn first(line: &[u8]) -> &[u8]
 
 // ---- numbers
 
-// What a hexadecimal digit stands for.
+// What a hexadecimal digit stands for. Any other byte stands for eight bits too.
 fn digit(b: u8) -> u64
     ensures { result ≡ digit b }
 {
     if b <= b'9' {
-        u64::from(b.saturating_sub(b'0'))
+        u64::from(b.wrapping_sub(b'0'))
     } else {
-        u64::from(b.saturating_sub(b'a' - 10))
+        u64::from(b.wrapping_sub(b'a' - 10))
     }
 }
 
 // A number with one more digit, in 64 bits.
 fn with_digit(v: u64, b: u8) -> u64
-    ensures { result ≡ (16 * v + digit b) % 2 ^ 64 }
+    ensures { result ≡ bit_or ((v * 16) % 2 ^ 64) (digit b) }
 {
-    v.wrapping_mul(16).wrapping_add(digit(b))
+    (v << 4) | digit(b)
 }
 
 // What hexadecimal digits say.
@@ -63,11 +72,14 @@ impl<'a> Word<'a> {
     fn new(text: &'a [u8]) -> Word<'a>
         ensures { word_seen result ≡ word_of text.now }
     {
-        match split_once(text, b'*') {
-            Some((times, text)) => Word {
-                times: number(times).max(1),
-                text,
-            },
+        match rsplit_once(text, b'*') {
+            Some((before, text)) => {
+                let times = rsplit_once(before, b'*').map_or(before, |p| p.1);
+                Word {
+                    times: number(times).max(1),
+                    text,
+                }
+            }
             None => Word { times: 1, text },
         }
     }

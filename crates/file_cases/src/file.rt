@@ -1,7 +1,6 @@
 // The setup file that the lines have made.
 use case_lines::lists::{front, put};
 use case_lines::words;
-use case_lines::words::Words;
 
 // The first `size` of the bytes: there is no allocation.
 #[derive(Drop)]
@@ -27,24 +26,62 @@ impl File {
         self.bytes.get(k).copied().unwrap_or(0)
     }
 
-    // The bytes that words give, two digits each, from a place on. The place behind them.
-    pub fn lay(&mut self, from: usize, words: Words<'_>) -> usize {
+    // The bytes that digits give, two each, from a place on. The place behind them.
+    fn lay_digits(&mut self, from: usize, digits: &[u8]) -> usize {
         let mut at = from;
-        for word in words {
-            for _ in 0..word.times {
-                for digits in word.text.chunks_exact(2) {
-                    put(&mut self.bytes, at, (words::number(digits) % 256) as u8);
-                    at = at.wrapping_add(1);
-                }
-            }
+        for byte in digits.chunks_exact(2) {
+            put(&mut self.bytes, at, (words::number(byte) % 256) as u8);
+            at = at.wrapping_add(1);
         }
         at
     }
 
+    // The bytes from `from` to `to` once more, from `to` on. The place behind them.
+    fn again(&mut self, from: usize, to: usize) -> usize {
+        let mut at = to;
+        for k in from..to {
+            let byte = self.byte(k);
+            put(&mut self.bytes, at, byte);
+            at = at.wrapping_add(1);
+        }
+        at
+    }
+
+    // The bytes of a word, as many times as it says. What stands before a `*` is how many times; its digits are laid too, and what stands behind it over them.
+    fn lay_word(&mut self, from: usize, word: &[u8]) -> usize {
+        let mut at = from;
+        let mut times = 1;
+        let mut number = 1;
+        for digits in word.split(|b| *b == b'*') {
+            times = number;
+            number = words::number(digits);
+            at = self.lay_digits(from, digits);
+        }
+        let n = at.wrapping_sub(from);
+        for _ in 1..times {
+            at = self.again(at.wrapping_sub(n), at);
+        }
+        at
+    }
+
+    // The bytes that a line's words give, but for the first ones, from a place on. The place behind them.
+    fn lay(&mut self, from: usize, line: &[u8], first: usize) -> usize {
+        let mut at = from;
+        for word in line.split(|b| *b == b' ').skip(first) {
+            at = self.lay_word(at, word);
+        }
+        at
+    }
+
+    // The line `file`.
+    pub fn set(&mut self, line: &[u8]) {
+        self.size = self.lay(0, line, 1);
+    }
+
     // The line `put`: where its bytes go, and they.
-    pub fn put(&mut self, mut words: Words<'_>) {
-        let from = words.next().map_or(0, |w| words::number(w.text)) as usize;
-        let to = self.lay(from, words);
+    pub fn put(&mut self, line: &[u8]) {
+        let from = line.split(|b| *b == b' ').nth(1).map_or(0, words::number) as usize;
+        let to = self.lay(from, line, 2);
         self.size = self.size.max(to);
     }
 }

@@ -16,90 +16,88 @@
 
 #![tactic(auto)]
 
+mod arguments;
 mod file;
 mod reading;
 mod show;
 mod sweeps;
 
-use case_lines::words::{Numbers, Words};
+use arguments::Arguments;
 use case_lines::{lines, words};
 use file::File;
 use reading::Lending;
 use std::io;
 use std::io::Read;
-use std::ops::Range;
 
-// The numbers of a line, 0 where it has none.
-fn numbers<const N: usize>(line: &[u8]) -> [usize; N] {
-    let mut list = [0; N];
-    Numbers::new(line).lay(&mut list);
-    list
+// What the lines have set.
+#[derive(Drop)]
+struct Settings {
+    file: File,
+    lending: Lending,
+    arguments: Arguments,
 }
 
-// From the first number to before the second.
-fn range(line: &[u8]) -> Range<usize> {
-    let [from, to] = numbers::<2>(line);
-    from..to
-}
-
-fn run_line(rt: &impl Print, line: &[u8], file: &mut File, l: &mut Lending) -> io::Result<()> {
-    let lending = *l;
+// A line that begins with numbers, which stay for the lines behind it that leave them out. It is told by its first character, and one with another reads.
+fn run_numbered(rt: &impl Print, line: &[u8], s: &mut Settings) -> io::Result<()> {
+    let a = &mut s.arguments;
+    let file = &mut s.file;
+    let lending = s.lending;
+    a.read(line);
     match words::first(line) {
-        b"#" => {
+        [b's', ..] => file.size = a.number(0),
+        [b'l', ..] => {
+            s.lending = Lending {
+                limit: a.number(0),
+                held: a.number(1),
+                places: a.number(2),
+            };
+        }
+        [b'c', ..] => sweeps::cuts(rt, file, lending, a.range())?,
+        [b'k', ..] => sweeps::kinds(rt, file, lending, a)?,
+        [b'b', ..] => sweeps::bits(rt, file, lending, a.range())?,
+        [b'g', ..] => sweeps::lent(rt, file, a.range(), |places| Lending { places, ..lending })?,
+        [b'h', ..] => sweeps::lent(rt, file, a.range(), |held| Lending { held, ..lending })?,
+        _ => sweeps::once(rt, file, lending)?,
+    }
+    Ok(())
+}
+
+fn run_line(rt: &impl Print, line: &[u8], s: &mut Settings) -> io::Result<()> {
+    match words::first(line) {
+        [b'#', ..] => {
             rt.write_all(line)?;
             rt.print("\n")?;
         }
-        b"file" => file.size = file.lay(0, Words::new(line)),
-        b"put" => file.put(Words::new(line)),
-        b"size" => [file.size] = numbers::<1>(line),
-        b"lend" => {
-            let [limit, held, places] = numbers::<3>(line);
-            *l = Lending {
-                limit,
-                held,
-                places,
-            };
-        }
-        b"read" => sweeps::once(rt, file, lending)?,
-        b"cuts" => sweeps::cuts(rt, file, lending, range(line))?,
-        b"kinds" => sweeps::kinds(rt, file, lending, Numbers::new(line))?,
-        b"bits" => sweeps::bits(rt, file, lending, range(line))?,
-        b"grow" => sweeps::lent(
-            rt,
-            file,
-            range(line),
-            |places| Lending { places, ..lending },
-        )?,
-        b"hold" => sweeps::lent(rt, file, range(line), |held| Lending { held, ..lending })?,
-        _ => {}
+        [b'f', ..] => s.file.set(line),
+        [b'p', ..] => s.file.put(line),
+        _ => run_numbered(rt, line, s)?,
     }
     Ok(())
 }
 
 // A line in each turn, to the end of the input.
-fn run(
-    rt: &impl Print,
-    input: &mut impl Read,
-    file: &mut File,
-    lending: &mut Lending,
-) -> io::Result<()> {
+fn run(rt: &impl Print, input: &mut impl Read, s: &mut Settings) -> io::Result<()> {
     let mut room = [0u8; 8192];
     // A count: a loop that waits on input needs one.
     for _ in 0..1000000usize {
         let Some(line) = lines::read_line(input, &mut room)? else {
             break;
         };
-        run_line(rt, line, file, lending)?;
+        run_line(rt, line, s)?;
     }
     Ok(())
 }
 
 fn main(rt: HostRuntime) -> io::Result<()> {
     let mut input = rt.stdin();
-    let mut lending = Lending {
-        limit: 0,
-        held: 0,
-        places: 0,
+    let mut settings = Settings {
+        file: File::new(),
+        lending: Lending {
+            limit: 0,
+            held: 0,
+            places: 0,
+        },
+        arguments: Arguments::new(),
     };
-    run(&rt, &mut input, &mut File::new(), &mut lending)
+    run(&rt, &mut input, &mut settings)
 }

@@ -2,11 +2,11 @@
 
 ghost use Rattle.std.specs.Iterator.{IsFinite};
 
+use crate::arguments::Arguments;
 use crate::file::File;
 use crate::reading::{Lending, read};
 use crate::show::Answers;
 use case_lines::lists::{front, put};
-use case_lines::words::Numbers;
 use std::io;
 use std::ops::Range;
 
@@ -79,11 +79,18 @@ pub fn kinds(
     rt: &impl Print,
     file: &mut File,
     lending: Lending,
-    places: Numbers<'_>,
+    places: &Arguments,
 ) -> io::Result<()> {
     let mut answers = Answers::new();
-    for at in places {
-        altered(rt, &mut answers, file, lending, at as usize, 0..=u8::MAX)?;
+    for k in 0..places.count {
+        altered(
+            rt,
+            &mut answers,
+            file,
+            lending,
+            places.number(k),
+            0..=u8::MAX,
+        )?;
     }
     answers.end(rt)
 }

@@ -1,5 +1,5 @@
 // Rows handed back from a store of any content: each double and each word says its place.
-use crate::inputs::Settings;
+use crate::inputs::{HANDED, Settings};
 use crate::show;
 use case_lines::lists::front;
 use std::num::nearest_usize_to_f64;
@@ -11,8 +11,8 @@ pub fn run(rt: &impl Print, s: &Settings) -> io::Result<()> {
     let values: [f64; 64] = array::from_fn(nearest_usize_to_f64);
     let tvalues: [f64; 64] = array::from_fn(|k| nearest_usize_to_f64(k) + 0.5);
     let columns: [usize; 64] = array::from_fn(|k| k);
-    let [level, row, n, m] = s.handed;
-    let c = s.built;
+    let [level, row, n, m]: [usize; 4] = s.words(HANDED);
+    let c = s.built();
     let starts = s.starts();
     let values = front(&values, n);
     let tvalues = front(&tvalues, n);

@@ -1,40 +1,47 @@
 // What the lines have set, as a call is handed it.
-use crate::steps::Step;
 use case_lines::lists;
+use case_lines::lists::put;
 use case_lines::words::Numbers;
 use lattice::grid::Grid3d;
 use lattice::input::Stretches;
 use lattice::lattice::{Edges, Lattice};
 use numbers::C64;
 use programs::bytes;
+use std::array;
 use store::Choice;
 use store::handed::Cells;
+
+// Where in the words those of each line begin.
+pub const GRID: usize = 0;
+
+pub const CHOICE: usize = 3;
+
+pub const COUNTS: usize = 8;
+
+pub const ROOM: usize = 16;
+
+pub const BUILT: usize = 32;
+
+pub const HANDED: usize = 72;
+// How many starts there are; behind it they.
+const PLACED: usize = 128;
+// The lengths that are lent for a change.
+pub const LENT: usize = 500;
+// How many words the steps have; behind it they, four a step.
+const STEPS: usize = 512;
 
 // Where in the doubles the lists begin, behind those of the line `numbers`.
 const LISTS: usize = 16;
 
 // How many doubles each list has room for; the last takes what is left.
-const ROOM: usize = 144;
+const LIST: usize = 144;
 
-// An array has the words of the line of its name; a line of fewer words leaves those behind as they were.
+// One array for the words of all lines: a line of more than there is room for runs on into those behind, one of fewer leaves those behind as they were, and a step may
+// set any word. One array for the doubles: a step names one of the line `numbers` or of a list by its place in it.
 #[derive(Drop)]
 pub struct Settings {
-    pub grid: [usize; 3],
-    pub choice: [usize; 3],
-    pub counts: [usize; 7],
-    pub room: [usize; 12],
-    // The lengths that are lent for a change.
-    pub lent: [usize; 12],
-    // The levels and their cells.
-    pub built: Cells,
-    // Room for the starts, and how many there are: there is no allocation.
-    pub places: [usize; 371],
-    pub placed: usize,
-    pub handed: [usize; 4],
-    // None behind the last.
-    pub steps: [Option<Step>; 256],
-    // One array: a step names a double of the line `numbers` or of a list by its place in it.
-    pub doubles: [f64; 25600],
+    words: [usize; 1600],
+    doubles: [f64; 25600],
 }
 
 fn edges(kind: f64, re: f64, im: f64) -> Edges {
@@ -47,21 +54,38 @@ fn edges(kind: f64, re: f64, im: f64) -> Edges {
 impl Settings {
     pub fn new() -> Settings {
         Settings {
-            grid: [0; 3],
-            choice: [0; 3],
-            counts: [0; 7],
-            room: [0; 12],
-            lent: [0; 12],
-            built: Cells {
-                levels: 0,
-                cells: [0; 36],
-            },
-            places: [0; 371],
-            placed: 0,
-            handed: [0; 4],
-            steps: [None; 256],
+            words: [0; 1600],
             doubles: [0.0; 25600],
         }
+    }
+
+    // ---- set
+
+    // The words of a line, from a place on. How many there was room for.
+    pub fn set_words(&mut self, from: usize, numbers: Numbers<'_>) -> usize {
+        let Some(room) = self.words.get_mut(from..) else {
+            return 0;
+        };
+        numbers.lay(room)
+    }
+
+    // The line `places`.
+    pub fn set_places(&mut self, numbers: Numbers<'_>) {
+        self.words[PLACED] = self.set_words(PLACED + 1, numbers);
+    }
+
+    // The line `steps`.
+    pub fn set_steps(&mut self, numbers: Numbers<'_>) {
+        self.words[STEPS] = self.set_words(STEPS + 1, numbers);
+    }
+
+    // A line of another kind lays its words where those of the steps stand.
+    pub fn set_rest(&mut self, numbers: Numbers<'_>) {
+        self.set_words(STEPS + 1, numbers);
+    }
+
+    pub fn drop_steps(&mut self) {
+        self.words[STEPS] = 0;
     }
 
     // The doubles of a line, from a place on.
@@ -75,29 +99,40 @@ impl Settings {
     // The doubles of the line `list`, whose first word says which.
     pub fn set_list(&mut self, mut numbers: Numbers<'_>) {
         let k = numbers.next().unwrap_or(0).min(6) as usize;
-        self.set_doubles(LISTS + ROOM * k, numbers);
+        self.set_doubles(LISTS + LIST * k, numbers);
     }
 
-    pub fn set_steps(&mut self, mut numbers: Numbers<'_>) {
-        for place in self.steps.iter_mut() {
-            *place = Step::read(&mut numbers);
+    // One word, none past the last.
+    pub fn set_word(&mut self, place: usize, word: usize) {
+        put(&mut self.words, place, word);
+    }
+
+    // And one double.
+    pub fn set_double(&mut self, place: usize, double: f64) {
+        put(&mut self.doubles, place, double);
+    }
+
+    // Each list is lent as it is for the setup.
+    pub fn lend(&mut self) {
+        for k in 0..12 {
+            self.words[LENT + k] = self.words[ROOM + k];
         }
     }
 
-    pub fn set_built(&mut self, mut numbers: Numbers<'_>) {
-        if let Some(levels) = numbers.next() {
-            self.built.levels = levels as usize;
-        }
-        numbers.lay(&mut self.built.cells);
+    // ---- handed over
+
+    // The words from a place on, 0 past the last.
+    pub fn words<const N: usize>(&self, from: usize) -> [usize; N] {
+        array::from_fn(|k| self.words.get(from.wrapping_add(k)).copied().unwrap_or(0))
     }
 
     pub fn lattice(&self) -> Lattice {
         let d = &self.doubles;
         Lattice {
             grid: Grid3d {
-                nx: self.grid[0],
-                ny: self.grid[1],
-                nz: self.grid[2],
+                nx: self.words[GRID],
+                ny: self.words[GRID + 1],
+                nz: self.words[GRID + 2],
                 dx: d[0],
                 dy: d[1],
                 dz: d[2],
@@ -111,25 +146,25 @@ impl Settings {
     }
 
     pub fn choice(&self) -> Choice {
-        match self.choice[0] {
+        match self.words[CHOICE] {
             0 => Choice::Galerkin,
             _ => Choice::Rediscretized,
         }
     }
 
     pub fn coarsest(&self) -> usize {
-        self.choice[1]
+        self.words[CHOICE + 1]
     }
 
     pub fn brief(&self) -> bool {
-        self.choice[2] != 0
+        self.words[CHOICE + 2] != 0
     }
 
     // The first doubles of list k, as many as the line `doubles` says; none where there are fewer.
     pub fn list(&self, k: usize) -> &[f64] {
         let k = k.min(6);
-        let from = LISTS + ROOM * k;
-        let to = self.counts[k].saturating_add(from);
+        let from = LISTS + LIST * k;
+        let to = self.words[COUNTS + k].saturating_add(from);
         self.doubles.get(from..to).unwrap_or(&[])
     }
 
@@ -144,8 +179,26 @@ impl Settings {
         }
     }
 
+    // The levels and cells of the line `built`.
+    pub fn built(&self) -> Cells {
+        Cells {
+            levels: self.words[BUILT],
+            cells: self.words(BUILT + 1),
+        }
+    }
+
     // The starts of the line `places`.
     pub fn starts(&self) -> &[usize] {
-        lists::front(&self.places, self.placed)
+        lists::front(&self.words[PLACED + 1..], self.words[PLACED])
+    }
+
+    // How many steps there are, as far as the words hold them.
+    pub fn steps(&self) -> usize {
+        (self.words[STEPS] / 4).min(256)
+    }
+
+    // The four words of step k.
+    pub fn step(&self, k: usize) -> [usize; 4] {
+        self.words(k.wrapping_mul(4).wrapping_add(STEPS + 1))
     }
 }

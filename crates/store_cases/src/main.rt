@@ -27,7 +27,7 @@ mod steps;
 
 use case_lines::words::Numbers;
 use case_lines::{lines, words};
-use inputs::Settings;
+use inputs::{BUILT, CHOICE, COUNTS, GRID, HANDED, ROOM, Settings};
 use numbers::lists;
 use std::io;
 use std::io::Read;
@@ -51,39 +51,42 @@ fn repeated(rt: &impl Print) -> io::Result<()> {
     twice(rt, "1 0 1", &[1, 0, 1])
 }
 
+// A line is told by its first character, `steps` by its second too.
 fn run_line(rt: &impl Print, line: &[u8], s: &mut Settings) -> io::Result<()> {
     let numbers = Numbers::new(line);
     match words::first(line) {
-        b"#" => {
+        [b'#', ..] => {
             rt.write_all(line)?;
             rt.print("\n")?;
         }
-        b"grid" => {
-            numbers.lay(&mut s.grid);
+        [b'g', ..] => {
+            s.set_words(GRID, numbers);
         }
-        b"numbers" => s.set_doubles(0, numbers),
-        b"list" => s.set_list(numbers),
-        b"doubles" => {
-            numbers.lay(&mut s.counts);
+        [b'n', ..] => s.set_doubles(0, numbers),
+        [b'l', ..] => s.set_list(numbers),
+        [b'd', ..] => {
+            s.set_words(COUNTS, numbers);
         }
-        b"choice" => {
-            numbers.lay(&mut s.choice);
+        [b'c', ..] => {
+            s.set_words(CHOICE, numbers);
         }
-        b"room" => {
-            numbers.lay(&mut s.room);
+        [b'r', ..] => {
+            s.set_words(ROOM, numbers);
         }
-        b"setup" => {
+        [b's', b't', ..] | [b't', ..] => s.set_steps(numbers),
+        [b's', ..] => {
             setups::run(rt, s)?;
-            s.steps = [None; 256];
+            s.drop_steps();
         }
-        b"steps" => s.set_steps(numbers),
-        b"built" => s.set_built(numbers),
-        b"places" => s.placed = numbers.lay(&mut s.places),
-        b"handed" => {
-            numbers.lay(&mut s.handed);
+        [b'b', ..] => {
+            s.set_words(BUILT, numbers);
+        }
+        [b'p', ..] => s.set_places(numbers),
+        [b'h', ..] => {
+            s.set_words(HANDED, numbers);
             handed::run(rt, s)?;
         }
-        _ => {}
+        _ => s.set_rest(numbers),
     }
     Ok(())
 }

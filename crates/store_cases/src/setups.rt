@@ -1,5 +1,5 @@
 // A setup: what it needs, what it answers, what it leaves in the twelve lists, and its rows handed back; then the steps behind it.
-use crate::inputs::Settings;
+use crate::inputs::{ROOM, Settings};
 use crate::{show, steps};
 use case_lines::shown::{Number, digest};
 use std::io;
@@ -86,7 +86,7 @@ fn lent<T>(list: &mut [T], n: usize) -> &mut [T] {
 }
 
 pub fn run(rt: &impl Print, s: &mut Settings) -> io::Result<()> {
-    let room = s.room;
+    let room: [usize; 12] = s.words(ROOM);
     let word = usize::mark();
     let double = f64::mark();
     let mut ends = [word; 256];

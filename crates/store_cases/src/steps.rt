@@ -1,9 +1,8 @@
 // The steps behind an accepted setup: changes, and what a holder may do between them.
-use crate::inputs::Settings;
+use crate::inputs::{COUNTS, LENT, Settings};
 use crate::show;
 use case_lines::lists::{front_mut, put};
 use case_lines::shown::digest;
-use case_lines::words::Numbers;
 use changes::change;
 use numbers::C64;
 use programs::bytes;
@@ -30,7 +29,8 @@ pub enum Step {
         place: usize,
         double: f64,
     },
-    // What the calls behind are handed: the length of a lent list, the count of doubles of an input list, a word of the lines `grid` and `choice`, a double.
+    // What the calls behind are handed: the length of a lent list, the count of doubles of an input list, a word of the lines `grid` and `choice`, a double. Each is a
+    // word or a double of the settings, and no place in them is refused.
     Lend {
         list: usize,
         places: usize,
@@ -50,49 +50,36 @@ pub enum Step {
 }
 
 impl Step {
-    // The next of a line; none at its end, and where the kind is none of the seven.
-    pub fn read(words: &mut Numbers<'_>) -> Option<Step> {
-        let kind = words.next()?;
-        let a = words.next()? as usize;
-        let b = words.next()?;
-        let c = words.next()?;
-        Step::new(kind, a, b, c)
-    }
-
-    fn new(kind: u64, a: usize, b: u64, c: u64) -> Option<Step> {
+    // None where the kind is none of the seven.
+    fn new(words: [usize; 4]) -> Option<Step> {
+        let [kind, a, b, c] = words;
         match kind {
             1 => Some(Step::Change {
                 edge: a,
                 value: C64 {
-                    re: bytes::double_of(b),
-                    im: bytes::double_of(c),
+                    re: bytes::double_of(b as u64),
+                    im: bytes::double_of(c as u64),
                 },
             }),
             2 => Some(Step::Word {
                 list: a,
-                place: b as usize,
-                word: c as usize,
+                place: b,
+                word: c,
             }),
-            3 => Some(Step::Lend {
-                list: a,
-                places: b as usize,
-            }),
+            3 => Some(Step::Lend { list: a, places: b }),
             4 => Some(Step::Hand {
                 list: a,
-                doubles: b as usize,
+                doubles: b,
             }),
-            5 => Some(Step::SetWord {
-                place: a,
-                word: b as usize,
-            }),
+            5 => Some(Step::SetWord { place: a, word: b }),
             6 => Some(Step::SetDouble {
                 place: a,
-                double: bytes::double_of(b),
+                double: bytes::double_of(b as u64),
             }),
             7 => Some(Step::Double {
                 list: a,
-                place: b as usize,
-                double: bytes::double_of(c),
+                place: b,
+                double: bytes::double_of(c as u64),
             }),
             _ => None,
         }
@@ -131,7 +118,7 @@ fn alter_double(l: &mut Lists<'_>, list: usize, place: usize, double: f64) {
 
 // The change of an edge to a value in the fronts of the lists.
 fn change(s: &Settings, edge: usize, value: C64, l: &mut Lists<'_>) -> Result<usize, Refusal> {
-    let lent = s.lent;
+    let lent: [usize; 12] = s.words(LENT);
     let fixed = Structure {
         ends: front_mut(l.ends, lent[0]),
         starts: front_mut(l.starts, lent[2]),
@@ -180,14 +167,6 @@ fn left(rt: &impl Print, l: &Lists<'_>, brief: bool) -> io::Result<()> {
 
 // ---- the steps
 
-// Word k of the lines `grid` and `choice`.
-fn set_word(s: &mut Settings, k: usize, word: usize) {
-    match k {
-        0..3 => put(&mut s.grid, k, word),
-        _ => put(&mut s.choice, k.wrapping_sub(3), word),
-    }
-}
-
 fn take(rt: &impl Print, s: &mut Settings, l: &mut Lists<'_>, step: Step) -> io::Result<()> {
     match step {
         Step::Change { edge, value } => {
@@ -200,21 +179,21 @@ fn take(rt: &impl Print, s: &mut Settings, l: &mut Lists<'_>, step: Step) -> io:
             place,
             double,
         } => alter_double(l, list, place, double),
-        Step::Lend { list, places } => put(&mut s.lent, list, places),
-        Step::Hand { list, doubles } => put(&mut s.counts, list, doubles),
-        Step::SetWord { place, word } => set_word(s, place, word),
-        Step::SetDouble { place, double } => put(&mut s.doubles, place, double),
+        Step::Lend { list, places } => s.set_word(LENT.wrapping_add(list), places),
+        Step::Hand { list, doubles } => s.set_word(COUNTS.wrapping_add(list), doubles),
+        Step::SetWord { place, word } => s.set_word(place, word),
+        Step::SetDouble { place, double } => s.set_double(place, double),
     }
     Ok(())
 }
 
-// All steps. Each list is lent as it was for the setup, until a step says otherwise.
+// All steps, each read when its turn comes. Each list is lent as it was for the setup, until a step says otherwise.
 pub fn run(rt: &impl Print, s: &mut Settings, l: &mut Lists<'_>) -> io::Result<()> {
-    let room = s.room;
-    s.lent = room;
-    let steps = s.steps;
-    for step in steps.iter().flatten() {
-        take(rt, s, l, *step)?;
+    s.lend();
+    for k in 0..s.steps() {
+        if let Some(step) = Step::new(s.step(k)) {
+            take(rt, s, l, step)?;
+        }
     }
     Ok(())
 }
