@@ -120,7 +120,7 @@ let c = cs[q];
     "three-cells-alone": ("yonaduvi/src/input.rt", "if cells.len() < 3 {", "if cells.len() != 3 {"),
     "other-refusal": ("store/src/told.rt", "Refusal::TooMany => Told::new(5, 12)", "Refusal::TooMany => Told::new(5, 11)"),
     "needs-order": ("yonaduvi/src/answers.rt", "n.terms, n.tstarts, n.terms,", "n.tstarts, n.terms, n.terms,"),
-    "needs-kept": ("yonaduvi/src/answers.rt", "_ => list.fill(0),", "_ => {}"),
+    "needs-kept": ("yonaduvi/src/answers.rt", "Err(_) => list.fill(0),", "Err(_) => {}"),
     "counts-early": ("yonaduvi/src/answers.rt", "words[q + 1] = cells[q];", "words[q] = cells[q];"),
     "counts-read-early": ("yonaduvi/src/rows.rt", "word(counts, q + 1)", "word(counts, q)"),
     "place-in-numbers": ("yonaduvi/src/rows.rt", "put_two(out, k * i,", "put_two(out, i,"),
