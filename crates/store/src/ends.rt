@@ -4,6 +4,7 @@ ghost use Rattle.std.specs.Prelude.{◌≤◌, ◌^◌, set};
 ghost use Rattle.numbers.specs.Lists.{Laid};
 ghost use Rattle.store.specs.PhaseSteps.{held_by, FewCells, EndsLaid};
 
+use crate::hierarchy::Hierarchy;
 use lattice::line::Line;
 use numbers::lists;
 
@@ -21,7 +22,7 @@ fn lay_line(f: Line, ends: &mut [usize], k: usize) -> usize
 }
 
 // The ends of the lines of levels 0 to m, one line behind another.
-pub fn lay_ends(lines: &[Line; 36], m: usize, ends: &mut [usize])
+pub fn lay_lines(lines: &[Line; 36], m: usize, ends: &mut [usize])
     requires m_bound { m ≤ 11 }
     requires few_cells { FewCells lines.now m }
     ensures { EndsLaid lines.now m ends.old ends.new }
@@ -30,5 +31,61 @@ pub fn lay_ends(lines: &[Line; 36], m: usize, ends: &mut [usize])
     let mut next = 0;
     for f in &lines[..n] {
         next = lay_line(*f, ends, next);
+    }
+}
+
+// The ends of the lines of a hierarchy, of its levels 0 to m, one line behind another.
+pub fn lay_ends(h: &Hierarchy<'_>, ends: &mut [usize])
+    requires { FewCells h.now.lines.now h.now.m }
+    ensures { EndsLaid h.now.lines.now h.now.m ends.old ends.new }
+{
+    lay_lines(h.lines, h.m, ends);
+}
+
+#[cfg(test)]
+mod tests {
+    use super::*;
+    use lattice::grid::Grid3d;
+    use lattice::lattice::{Edges, Lattice};
+    use lattice::levels;
+    use lattice::sound::Sound;
+
+    // 4 by 2 by 1 cells within walls. With stretches of zero all cells join that may: an axis of 4 cells has 2 on level 1, and an axis of fewer keeps its own.
+    #[test]
+    fn ends_of_two_levels() -> Result<(), &'static str> {
+        let lattice = Lattice {
+            grid: Grid3d {
+                nx: 4,
+                ny: 2,
+                nz: 1,
+                dx: 1.0,
+                dy: 1.0,
+                dz: 1.0,
+            },
+            x: Edges::Pml,
+            y: Edges::Pml,
+            z: Edges::Pml,
+            k0: 1.0,
+            shift: 0.0,
+        };
+        let st = [0.0; 768];
+        let l = Sound { lattice, st: &st };
+        let found = levels::join_lines(&l, 12);
+        let Some(n) = found.depth else {
+            return Err("over 12 levels");
+        };
+        let h = Hierarchy {
+            l,
+            lines: &found.lines,
+            m: n - 1,
+        };
+        let mut ends = [9usize; 20];
+        lay_ends(&h, &mut ends);
+        let want = [0, 2, 4, 6, 8, 0, 2, 4, 0, 2, 0, 4, 8, 0, 2, 4, 0, 2, 9, 9];
+        if ends == want {
+            Ok(())
+        } else {
+            Err("other ends")
+        }
     }
 }

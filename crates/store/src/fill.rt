@@ -110,7 +110,7 @@ pub fn fill(
     let tstarts = &mut *lists.tstarts;
     let tcolumns = &mut *lists.tcolumns;
     let tvalues = &mut *lists.tvalues;
-    ends::lay_ends(h.lines, h.m, lists.ends);
+    ends::lay_lines(h.lines, h.m, lists.ends);
     let a = transfers::transfers(
         h, given, eps, starts, columns, values, tstarts, tcolumns, tvalues,
     );

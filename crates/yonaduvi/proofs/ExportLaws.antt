@@ -52,7 +52,7 @@ left_other (Short list) xs vs n = refl
 left_other (NotFinite level) xs vs n = refl
 
 -- a refusal leaves the same, whichever values there are
-any_values : (r : Refusal) (xs vs ws : List ℕ) → list_left (answer_of (Err r)) xs vs ≡ list_left (answer_of (Err r)) xs ws
+pub any_values : (r : Refusal) (xs vs ws : List ℕ) → list_left (answer_of (Err r)) xs vs ≡ list_left (answer_of (Err r)) xs ws
 any_values (OfInput (Cells place)) xs vs ws = refl
 any_values (OfInput (Scalar place)) xs vs ws = refl
 any_values (OfInput (Length place)) xs vs ws = refl

@@ -1,6 +1,6 @@
 // What the calls leave in the lists that they are lent. What would lie past the end of a list is left out.
 
-ghost use Rattle.std.specs.Prelude.{◌≡◌, [], ◌∷◌, ◌≤◌, length};
+ghost use Rattle.std.specs.Prelude.{◌≡◌, ℕ, List, Err, [], ◌∷◌, ◌≤◌, length};
 ghost use Rattle.numbers.specs.Lists.{laid};
 ghost use Rattle.store.specs.Steps.{answer_of};
 ghost use Rattle.yonaduvi.specs.Exports.{list_left, needs_words};
@@ -28,7 +28,7 @@ pub fn put(list: &mut [usize], values: &[usize])
 }
 
 // What an answer leaves in a list: the values, or what stood there (refusals 1 to 4), or zero in every place.
-pub fn leave(a: Result<usize, Refusal>, list: &mut [usize], values: &[usize])
+pub fn leave_answer(a: Result<usize, Refusal>, list: &mut [usize], values: &[usize])
     requires { length values.now ≤ 64 }
     ensures { list.new ≡ list_left (answer_of a) list.old values.now }
 {
@@ -37,6 +37,13 @@ pub fn leave(a: Result<usize, Refusal>, list: &mut [usize], values: &[usize])
         Err(Refusal::Input(_)) => {}
         Err(_) => list.fill(0),
     }
+}
+
+// What a refusal leaves in a list: refusals 1 to 4 what stood there, the others zero in every place.
+pub fn leave(r: Refusal, list: &mut [usize])
+    ensures { (vs : List ℕ) → list.new ≡ list_left (answer_of (Err r)) list.old vs }
+{
+    leave_answer(Err(r), list, &[]);
 }
 
 // The places that each of the twelve lists needs, in the order in which a setup takes them.
@@ -59,4 +66,34 @@ pub fn cells_words(cells: [usize; 36], levels: usize) -> [usize; 37]
         words[q + 1] = cells[q];
     }
     words
+}
+
+#[cfg(test)]
+mod tests {
+    use super::*;
+    use lattice::check;
+
+    // The refusals of an input leave what stood there, the others zero in every place.
+    #[test]
+    fn left_by_each_refusal() -> Result<(), Refusal> {
+        let kept = [7usize, 8, 9];
+        let zeros = [0usize; 3];
+        for (r, want) in [
+            (Refusal::Input(check::Refusal::Cells(1)), kept),
+            (Refusal::Input(check::Refusal::Scalar(2)), kept),
+            (Refusal::Input(check::Refusal::Length(3)), kept),
+            (Refusal::Input(check::Refusal::Entry(4)), kept),
+            (Refusal::TooMany, zeros),
+            (Refusal::Twice(1), zeros),
+            (Refusal::Short(2), zeros),
+            (Refusal::NotFinite(3), zeros),
+        ] {
+            let mut list = kept;
+            leave(r, &mut list);
+            if list != want {
+                return Err(r);
+            }
+        }
+        Ok(())
+    }
 }

@@ -243,8 +243,8 @@ pub extern "C" fn yonaduvi_needs(
         Err(refusal) => {
             let t = Told::from(refusal);
             answers::put_two(out, t.number, t.place);
-            answers::leave(Err(refusal), needs, &[]);
-            answers::leave(Err(refusal), counts, &[]);
+            answers::leave_answer(Err(refusal), needs, &[]);
+            answers::leave_answer(Err(refusal), counts, &[]);
             return;
         }
     };

@@ -4,8 +4,8 @@ use Rattle.store.proofs.ShortLaws.{transfer_room}
 use Rattle.store.proofs.FillLaws.{ready_of, chosen_room_after, scaling_asked_of, codes_low, fill_is}
 use Rattle.store.proofs.fill.fill.Goals as goal
 
-pub lay_ends-requires-clause-few_cells : goal.lay_ends-requires-clause-few_cells
-lay_ends-requires-clause-few_cells c = few_cells c.args.h.now.has_lines c.args.h.now.l.limits
+pub lay_lines-requires-clause-few_cells : goal.lay_lines-requires-clause-few_cells
+lay_lines-requires-clause-few_cells c = few_cells c.args.h.now.has_lines c.args.h.now.l.limits
 
 pub transfers-a-requires-clause-transfer_room : goal.transfers-a-requires-clause-transfer_room
 transfers-a-requires-clause-transfer_room c = transfer_room _ _ _ (store_of c.args.lists.now) c.requires.enough
@@ -23,4 +23,4 @@ pub first_bad-requires : goal.first_bad-requires
 first_bad-requires c = codes_low _ (store_of c.args.lists.now) c.args.h.now.l.limits c.args.h.now.few c.requires.enough c.transfers-a.ensures.transfers_left c.transfers-a.ensures.value c.operators-b.ensures c.scalings-c.ensures
 
 pub returns-clause-filled : goal.returns-clause-filled
-returns-clause-filled c = fill_is _ (store_of c.args.lists.now) c.args.h.now.l.limits c.args.h.now.few c.requires.enough c.transfers-a.ensures.transfers_left c.transfers-a.ensures.value c.operators-b.ensures c.scalings-c.ensures (c.lay_ends.ensures.ends_are _ c.args.h.now.l.limits c.args.h.now.has_lines) c.first_bad.ensures
+returns-clause-filled c = fill_is _ (store_of c.args.lists.now) c.args.h.now.l.limits c.args.h.now.few c.requires.enough c.transfers-a.ensures.transfers_left c.transfers-a.ensures.value c.operators-b.ensures c.scalings-c.ensures (c.lay_lines.ensures.ends_are _ c.args.h.now.l.limits c.args.h.now.has_lines) c.first_bad.ensures

@@ -7,7 +7,7 @@ use Rattle.std.proofs.Common.{rules, length-take}
 use Rattle.numbers.proofs.ListLaws.{laying_start, laying_turn}
 use Rattle.store.specs.Phases.{blank_line}
 use Rattle.store.proofs.EndLaws.{ends_low, ends_left_lem}
-use Rattle.store.proofs.ends.lay_ends.Goals as goal
+use Rattle.store.proofs.ends.lay_lines.Goals as goal
 
 pub loop-f-init : goal.loop-f-init
 loop-f-init c = laying_start
